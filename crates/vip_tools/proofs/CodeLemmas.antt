@@ -18,7 +18,7 @@ use Rattle.vip_words.specs.declared.request.Code.TheVariants.{Bytes, Source as T
 use Rattle.vip_words.specs.declared.request.Memory.{Memory}
 use Rattle.vip_tools.specs.declared.refusal.Misfit.TheVariants.{Game, Stray}
 use Rattle.vip_tools.specs.declared.refusal.Refusal.{Refusal}
-use Rattle.vip_tools.specs.declared.refusal.Refusal.TheVariants.{Usage, Unread, TooLarge, Script, Command, Source, Misfit, State, Rom, Certificate, Proof, NoCertificate, NoTiming, NoMemory}
+use Rattle.vip_tools.specs.declared.refusal.Refusal.TheVariants.{Script, Command, Source, Misfit, Rom, Certificate, Proof, NoCertificate, NoTiming, NoMemory}
 use Rattle.vip_tools.specs.Certificates.{made_byte, source_byte}
 use Rattle.vip_tools.specs.Code.{GameComes, GivesGame, ImageAnswers, ImageComes, IsGame, IsImage, IsNoGame, IsNoImage, IsShort, IsUnmarked, MadeImageAnswers, is_memory, is_stray, known_of, marked}
 use Rattle.vip_tools.specs.declared.code.Marks.{Marks}
@@ -34,20 +34,17 @@ use Rattle.vip_tools.proofs.CertificateLemmas.{length-bytes, same_bytes}
 -- a refusal by what is a case of something is one by that
 module _ (P Q : Outcome → Type 0) (so : (o : Outcome) → P o → Q o) where
   pub refused-so : (refusal : Refusal) → RefusedBy P refusal → RefusedBy Q refusal
-  refused-so Usage answer = absurd answer
-  refused-so (Unread name) answer = absurd answer
-  refused-so (TooLarge kind) answer = absurd answer
   refused-so (Script line cause) answer = so _ answer
   refused-so (Command line cause) answer = so _ answer
   refused-so (Source line cause) answer = so _ answer
   refused-so (Misfit misfit) answer = so _ answer
-  refused-so (State fault) answer = absurd answer
   refused-so (Rom fault) answer = so _ answer
   refused-so (Certificate line cause) answer = so _ answer
   refused-so (Proof line cause) answer = so _ answer
   refused-so (NoCertificate obstacle) answer = so _ answer
   refused-so (NoTiming why) answer = so _ answer
   refused-so NoMemory answer = tt
+  refused-so _ answer = absurd answer
 
   pub text-so : {Z : Type 0} (r : Result (Vec ℕ Z) Refusal) → TextAnswers P r → TextAnswers Q r
   text-so (Ok text) answer = so _ answer
@@ -60,34 +57,11 @@ module _ (isa : Isa) (P : Code (List ℕ) → Refusal → Type 0)
     (source : (text : List ℕ) (line : ℕ) (cause : AsmCause) → HasFirstFault isa (source_lines text) line cause → P (Text text) (Source line cause))
     (memory : (code : Code (List ℕ)) → P code NoMemory) where
   pub unmarked : (code : Code (List ℕ)) (refusal : Refusal) → IsUnmarked isa code refusal → P code refusal
-  unmarked (Bytes file) Usage answer = absurd answer
-  unmarked (Bytes file) (Unread name) answer = absurd answer
-  unmarked (Bytes file) (TooLarge kind) answer = absurd answer
-  unmarked (Bytes file) (Script line cause) answer = absurd answer
-  unmarked (Bytes file) (Command line cause) answer = absurd answer
-  unmarked (Bytes file) (Source line cause) answer = absurd answer
-  unmarked (Bytes file) (Misfit misfit) answer = absurd answer
-  unmarked (Bytes file) (State fault) answer = absurd answer
-  unmarked (Bytes file) (Rom fault) answer = absurd answer
-  unmarked (Bytes file) (Certificate line cause) answer = absurd answer
-  unmarked (Bytes file) (Proof line cause) answer = absurd answer
-  unmarked (Bytes file) (NoCertificate obstacle) answer = absurd answer
-  unmarked (Bytes file) (NoTiming why) answer = absurd answer
   unmarked (Bytes file) NoMemory answer = memory (Bytes file)
-  unmarked (Text text) Usage answer = absurd answer
-  unmarked (Text text) (Unread name) answer = absurd answer
-  unmarked (Text text) (TooLarge kind) answer = absurd answer
-  unmarked (Text text) (Script line cause) answer = absurd answer
-  unmarked (Text text) (Command line cause) answer = absurd answer
+  unmarked (Bytes file) _ answer = absurd answer
   unmarked (Text text) (Source line cause) answer = source text line cause answer
-  unmarked (Text text) (Misfit misfit) answer = absurd answer
-  unmarked (Text text) (State fault) answer = absurd answer
-  unmarked (Text text) (Rom fault) answer = absurd answer
-  unmarked (Text text) (Certificate line cause) answer = absurd answer
-  unmarked (Text text) (Proof line cause) answer = absurd answer
-  unmarked (Text text) (NoCertificate obstacle) answer = absurd answer
-  unmarked (Text text) (NoTiming why) answer = absurd answer
   unmarked (Text text) NoMemory answer = memory (Text text)
+  unmarked (Text text) _ answer = absurd answer
 
 pub unmarked-game : (e : Edition) (code : Code (List ℕ)) (refusal : Refusal) → IsUnmarked Chip8 code refusal → IsNoGame e code refusal
 unmarked-game e = unmarked Chip8 (IsNoGame e) (λ text line cause fault. fault) memory
@@ -123,35 +97,12 @@ game-comes e (Text text) Here bytes is fits o here = FitGame bytes o is fits her
 
 pub refused-game : (e : Edition) (code : Code (List ℕ)) (Here : List ℕ → Outcome → Type 0) (refusal : Refusal) → IsNoGame e code refusal
     → RefusedBy (GameComes e code Here) refusal
-refused-game e (Bytes file) Here Usage answer = absurd answer
-refused-game e (Bytes file) Here (Unread name) answer = absurd answer
-refused-game e (Bytes file) Here (TooLarge kind) answer = absurd answer
-refused-game e (Bytes file) Here (Script line cause) answer = absurd answer
-refused-game e (Bytes file) Here (Command line cause) answer = absurd answer
-refused-game e (Bytes file) Here (Source line cause) answer = absurd answer
-refused-game e (Bytes file) Here (Misfit misfit) answer = absurd answer
-refused-game e (Bytes file) Here (State fault) answer = absurd answer
-refused-game e (Bytes file) Here (Rom fault) answer = absurd answer
-refused-game e (Bytes file) Here (Certificate line cause) answer = absurd answer
-refused-game e (Bytes file) Here (Proof line cause) answer = absurd answer
-refused-game e (Bytes file) Here (NoCertificate obstacle) answer = absurd answer
-refused-game e (Bytes file) Here (NoTiming why) answer = absurd answer
 refused-game e (Bytes file) Here NoMemory answer = tt
-refused-game e (Text text) Here Usage answer = absurd answer
-refused-game e (Text text) Here (Unread name) answer = absurd answer
-refused-game e (Text text) Here (TooLarge kind) answer = absurd answer
-refused-game e (Text text) Here (Script line cause) answer = absurd answer
-refused-game e (Text text) Here (Command line cause) answer = absurd answer
+refused-game e (Bytes file) Here _ answer = absurd answer
 refused-game e (Text text) Here (Source line cause) answer = FaultyGame line cause answer
-refused-game e (Text text) Here (Misfit (Stray address)) answer = absurd answer
 refused-game e (Text text) Here (Misfit (Game edition)) answer = rw answer.0 (LargeGame answer.1 answer.2 answer.3)
-refused-game e (Text text) Here (State fault) answer = absurd answer
-refused-game e (Text text) Here (Rom fault) answer = absurd answer
-refused-game e (Text text) Here (Certificate line cause) answer = absurd answer
-refused-game e (Text text) Here (Proof line cause) answer = absurd answer
-refused-game e (Text text) Here (NoCertificate obstacle) answer = absurd answer
-refused-game e (Text text) Here (NoTiming why) answer = absurd answer
 refused-game e (Text text) Here NoMemory answer = tt
+refused-game e (Text text) Here _ answer = absurd answer
 
 -- ---- a program
 
@@ -162,35 +113,12 @@ image-comes memory (Text text) Here rom ram is o here = FitProgram o is.0 (rw (i
 
 pub refused-image : (memory : Memory) (code : Code (List ℕ)) (Here : List ℕ → List ℕ → Outcome → Type 0) (refusal : Refusal) → IsNoImage code refusal
     → RefusedBy (ImageComes memory code Here) refusal
-refused-image memory (Bytes file) Here Usage answer = absurd answer
-refused-image memory (Bytes file) Here (Unread name) answer = absurd answer
-refused-image memory (Bytes file) Here (TooLarge kind) answer = absurd answer
-refused-image memory (Bytes file) Here (Script line cause) answer = absurd answer
-refused-image memory (Bytes file) Here (Command line cause) answer = absurd answer
-refused-image memory (Bytes file) Here (Source line cause) answer = absurd answer
-refused-image memory (Bytes file) Here (Misfit misfit) answer = absurd answer
-refused-image memory (Bytes file) Here (State fault) answer = absurd answer
-refused-image memory (Bytes file) Here (Rom fault) answer = absurd answer
-refused-image memory (Bytes file) Here (Certificate line cause) answer = absurd answer
-refused-image memory (Bytes file) Here (Proof line cause) answer = absurd answer
-refused-image memory (Bytes file) Here (NoCertificate obstacle) answer = absurd answer
-refused-image memory (Bytes file) Here (NoTiming why) answer = absurd answer
 refused-image memory (Bytes file) Here NoMemory answer = tt
-refused-image memory (Text text) Here Usage answer = absurd answer
-refused-image memory (Text text) Here (Unread name) answer = absurd answer
-refused-image memory (Text text) Here (TooLarge kind) answer = absurd answer
-refused-image memory (Text text) Here (Script line cause) answer = absurd answer
-refused-image memory (Text text) Here (Command line cause) answer = absurd answer
+refused-image memory (Bytes file) Here _ answer = absurd answer
 refused-image memory (Text text) Here (Source line cause) answer = FaultyProgram line cause answer
 refused-image memory (Text text) Here (Misfit (Stray address)) answer = StrayProgram address answer.0 answer.1
-refused-image memory (Text text) Here (Misfit (Game edition)) answer = absurd answer
-refused-image memory (Text text) Here (State fault) answer = absurd answer
-refused-image memory (Text text) Here (Rom fault) answer = absurd answer
-refused-image memory (Text text) Here (Certificate line cause) answer = absurd answer
-refused-image memory (Text text) Here (Proof line cause) answer = absurd answer
-refused-image memory (Text text) Here (NoCertificate obstacle) answer = absurd answer
-refused-image memory (Text text) Here (NoTiming why) answer = absurd answer
 refused-image memory (Text text) Here NoMemory answer = tt
+refused-image memory (Text text) Here _ answer = absurd answer
 
 -- what an assembly gives, its source does
 module _ (memory : Memory) (text : List ℕ) (made : Made) (is : IsAssembly Cdp1802 (source_lines text) made) where
@@ -209,12 +137,6 @@ module _ (memory : Memory) (text : List ℕ) (made : Made) (is : IsAssembly Cdp1
       ram = rw (answer.2, length-bytes (made_byte made) 0 ram_size) (omega arith);
     },
   )
-  made-image (Err Usage) answer = absurd answer
-  made-image (Err (Unread name)) answer = absurd answer
-  made-image (Err (TooLarge kind)) answer = absurd answer
-  made-image (Err (Script line cause)) answer = absurd answer
-  made-image (Err (Command line cause)) answer = absurd answer
-  made-image (Err (Source line cause)) answer = absurd answer
   made-image (Err (Misfit (Stray address))) answer = (
     (made, is),
     record {
@@ -223,14 +145,8 @@ module _ (memory : Memory) (text : List ℕ) (made : Made) (is : IsAssembly Cdp1
       least = λ a below. sym (same_stray a (omega (arith, below, answer.low))) ∙ answer.least a below;
     },
   )
-  made-image (Err (Misfit (Game edition))) answer = absurd answer
-  made-image (Err (State fault)) answer = absurd answer
-  made-image (Err (Rom fault)) answer = absurd answer
-  made-image (Err (Certificate line cause)) answer = absurd answer
-  made-image (Err (Proof line cause)) answer = absurd answer
-  made-image (Err (NoCertificate obstacle)) answer = absurd answer
-  made-image (Err (NoTiming why)) answer = absurd answer
   made-image (Err NoMemory) answer = tt
+  made-image (Err _) answer = absurd answer
 
 -- ---- the game of a source is one
 

@@ -9,7 +9,7 @@ use Rattle.vip_outside.specs.Files.Answer.{Whole, Start, Lacked, Faulted}
 use Rattle.vip_outside.specs.declared.files.Loaded.{Loaded}
 use Rattle.vip_words.specs.Rules.{Word}
 use Rattle.vip_tools.specs.declared.refusal.Refusal.{Refusal}
-use Rattle.vip_tools.specs.declared.refusal.Refusal.TheVariants.{Usage, Unread, TooLarge, Script, Command, Source, Misfit, State, Rom, Certificate, Proof, NoCertificate, NoMemory, NoTiming}
+use Rattle.vip_tools.specs.declared.refusal.Refusal.TheVariants.{Unread, TooLarge, State, NoMemory}
 use Rattle.vip_tools.specs.declared.refusal.Kind.{Kind}
 use Rattle.vip_tools.specs.Files.{Needed, HasAll, HasThat, AreFit, ComesTo, FileAnswers, FilesRefused, IsLarger, IsUnread, Loads, OnlyReads, ReadsSome, files_of, reads_of, with_reads}
 
@@ -116,24 +116,14 @@ module _ (old mid new : FilesMeaning) (ms : List (Needed Word)) (cs : List (List
 
   -- a file was refused
   pub refused-behind : (ns : List (Needed Word)) (refusal : Refusal) → FilesRefused mid new ns refusal → FilesRefused old new (ms ++ ns) refusal
-  refused-behind ns Usage at = absurd at
   refused-behind ns (Unread name) at = comes_behind ns _ _ (λ n answer h. (h.0, subst (λ m. IsUnread m new n answer) same h.1)) at
   refused-behind ns (TooLarge kind) at = comes_behind ns _ _ (λ n answer h. (h.0, larger n answer h.1)) at
-  refused-behind ns (Script line cause) at = absurd at
-  refused-behind ns (Command line cause) at = absurd at
-  refused-behind ns (Source line cause) at = absurd at
-  refused-behind ns (Misfit misfit) at = absurd at
   refused-behind ns (State fault) at =
       comes_behind ns _ _
       (λ n answer h. (
         record { content = h.0.content; is = h.0.is; has = as_read n h.0.content h.0.has },
         h.1 ∙ ap (λ (m : FilesMeaning). record m { reads = new.reads }) same,
       )) at
-  refused-behind ns (Rom fault) at = absurd at
-  refused-behind ns (Certificate line cause) at = absurd at
-  refused-behind ns (Proof line cause) at = absurd at
-  refused-behind ns (NoCertificate obstacle) at = absurd at
-  refused-behind ns (NoTiming why) at = absurd at
   refused-behind ns NoMemory at =
       let first : List (Needed Word) = take at.count ns in
       let rest : List (Needed Word) = drop at.count ns in
@@ -141,6 +131,7 @@ module _ (old mid new : FilesMeaning) (ms : List (Needed Word)) (cs : List (List
       (ap (λ xs. ms ++ xs) (sym (take-append-drop at.count ns)) ∙ sym (append_assoc ms first rest))
       (rw (map-append, map-append, names_read old ms cs had, at.names) refl)
       (then_made at.reads at.made)
+  refused-behind ns _ at = absurd at
 
 -- the others were read too
 pub loads-then : (old mid new : FilesMeaning) (ms ns : List (Needed Word)) (xs ys : List (Needed (List ℕ))) → Loads old mid ms xs → Loads mid new ns ys
@@ -180,24 +171,15 @@ module _ (old new : FilesMeaning) (ms ns : List (Needed Word)) where
   }
 
   pub refused-before : (refusal : Refusal) → FilesRefused old new ms refusal → FilesRefused old new (ms ++ ns) refusal
-  refused-before Usage at = absurd at
   refused-before (Unread name) at = comes_before _ at
   refused-before (TooLarge kind) at = comes_before _ at
-  refused-before (Script line cause) at = absurd at
-  refused-before (Command line cause) at = absurd at
-  refused-before (Source line cause) at = absurd at
-  refused-before (Misfit misfit) at = absurd at
   refused-before (State fault) at = comes_before _ at
-  refused-before (Rom fault) at = absurd at
-  refused-before (Certificate line cause) at = absurd at
-  refused-before (Proof line cause) at = absurd at
-  refused-before (NoCertificate obstacle) at = absurd at
-  refused-before (NoTiming why) at = absurd at
   refused-before NoMemory at =
       let first : List (Needed Word) = take at.count ms in
       let rest : List (Needed Word) = drop at.count ms in
       reads-first old new first (rest ++ ns) (ms ++ ns) at.reads
       (ap (λ xs. xs ++ ns) (sym (take-append-drop at.count ms)) ∙ append_assoc first rest ns) at.names at.made
+  refused-before _ at = absurd at
 
 -- ---- none, and one
 
@@ -226,22 +208,12 @@ module _ (old new : FilesMeaning) (m n : Needed Word) (is : m ≡ n) where
   }
 
   refused : (refusal : Refusal) → FileAnswers {Z = Global} old new n (Err refusal) → FilesRefused old new (n ∷ []) refusal
-  refused Usage at = absurd at
   refused (Unread name) at = comes_to _ at.1 at.3 (at.0, at.2)
   refused (TooLarge kind) at = comes_to _ at.1 (ap (λ (m : FilesMeaning). m.reads) at.3) (at.0, at.2)
-  refused (Script line cause) at = absurd at
-  refused (Command line cause) at = absurd at
-  refused (Source line cause) at = absurd at
-  refused (Misfit misfit) at = absurd at
   refused (State fault) at = comes_to _ at.0 (ap (λ (m : FilesMeaning). m.reads) at.2) (at.1, only_reads (and_read n.file at.0 old.reads) at.2)
     where
       only_reads : (reads : Option (List Read)) → new ≡ record old { reads = reads } → OnlyReads old new
       only_reads reads is = rw is refl
-  refused (Rom fault) at = absurd at
-  refused (Certificate line cause) at = absurd at
-  refused (Proof line cause) at = absurd at
-  refused (NoCertificate obstacle) at = absurd at
-  refused (NoTiming why) at = absurd at
   refused NoMemory (inl none) = record { count = 0; reads = []; names = refl; made = ap (λ (m : FilesMeaning). m.reads) none ∙ no_reads old.reads }
   refused NoMemory (inr one) = record {
     count = 1;
@@ -249,6 +221,7 @@ module _ (old new : FilesMeaning) (m n : Needed Word) (is : m ≡ n) where
     names = refl;
     made = ap (λ (m : FilesMeaning). m.reads) one.1;
   }
+  refused _ at = absurd at
 
   pub refused-one : (refusal : Refusal) → FileAnswers {Z = Global} old new m (Err refusal) → FilesRefused old new (n ∷ []) refusal
   refused-one refusal at = refused refusal (subst (λ n. FileAnswers {Z = Global} old new n (Err refusal)) is at)

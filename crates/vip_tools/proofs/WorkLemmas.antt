@@ -4,7 +4,7 @@ use Rattle.chip8_lang.specs.declared.view.Edition.{Edition}
 use Rattle.asm_lex.specs.declared.shape.Isa.{Isa}
 use Rattle.asm_core.specs.Made.{Made}
 use Rattle.vip_tools.specs.declared.refusal.Refusal.{Refusal}
-use Rattle.vip_tools.specs.declared.refusal.Refusal.TheVariants.{Usage, Unread, TooLarge, Script, Command, Source, Misfit, State, Rom, Certificate, Proof, NoCertificate, NoMemory, NoTiming}
+use Rattle.vip_tools.specs.declared.refusal.Refusal.TheVariants.{Source, Certificate, Proof, NoMemory}
 use Rattle.vip_tools.specs.Certificates.{Assembled, CyclesComes, SafeComes, TimingComes, rom_in}
 use Rattle.vip_tools.specs.Certificates.CyclesComes.{NotAssembled, FaultyCertificate}
 use Rattle.vip_tools.specs.Certificates.SafeComes.{FaultyProof}
@@ -29,56 +29,23 @@ passed P refusal (Err e) is holds = subst (λ e. P (Err e)) (sym is) holds
 module _ (isa : Isa) (source : List ℕ) (IsText : Made → List ℕ → Type 0) where
   -- it isn't assembled
   pub refused-source : (refusal : Refusal) → SourceAnswers isa source (Err refusal) → RefusedBy (SourceComes isa source IsText) refusal
-  refused-source Usage answer = absurd answer
-  refused-source (Unread name) answer = absurd answer
-  refused-source (TooLarge kind) answer = absurd answer
-  refused-source (Script line cause) answer = absurd answer
-  refused-source (Command line cause) answer = absurd answer
   refused-source (Source line cause) answer = FaultySource line cause answer
-  refused-source (Misfit misfit) answer = absurd answer
-  refused-source (State fault) answer = absurd answer
-  refused-source (Rom fault) answer = absurd answer
-  refused-source (Certificate line cause) answer = absurd answer
-  refused-source (Proof line cause) answer = absurd answer
-  refused-source (NoCertificate obstacle) answer = absurd answer
-  refused-source (NoTiming why) answer = absurd answer
   refused-source NoMemory answer = tt
+  refused-source _ answer = absurd answer
 
 -- ---- certificates
 
 module _ (source text : List ℕ) (exits : Bool) where
   pub refused-rom : (refusal : Refusal) → RomAnswers source (Err refusal) → RefusedBy (CyclesComes source text exits) refusal
-  refused-rom Usage answer = absurd answer
-  refused-rom (Unread name) answer = absurd answer
-  refused-rom (TooLarge kind) answer = absurd answer
-  refused-rom (Script line cause) answer = absurd answer
-  refused-rom (Command line cause) answer = absurd answer
   refused-rom (Source line cause) answer = NotAssembled line cause answer
-  refused-rom (Misfit misfit) answer = absurd answer
-  refused-rom (State fault) answer = absurd answer
-  refused-rom (Rom fault) answer = absurd answer
-  refused-rom (Certificate line cause) answer = absurd answer
-  refused-rom (Proof line cause) answer = absurd answer
-  refused-rom (NoCertificate obstacle) answer = absurd answer
-  refused-rom (NoTiming why) answer = absurd answer
   refused-rom NoMemory answer = tt
+  refused-rom _ answer = absurd answer
 
   refused-checked :
       (made : Assembled source) (refusal : Refusal) → CertificateAnswers {Z = Global} (rom_in source) text exits (Err refusal) → RefusedBy (CyclesComes source text exits) refusal
-  refused-checked made Usage answer = absurd answer
-  refused-checked made (Unread name) answer = absurd answer
-  refused-checked made (TooLarge kind) answer = absurd answer
-  refused-checked made (Script line cause) answer = absurd answer
-  refused-checked made (Command line cause) answer = absurd answer
-  refused-checked made (Source line cause) answer = absurd answer
-  refused-checked made (Misfit misfit) answer = absurd answer
-  refused-checked made (State fault) answer = absurd answer
-  refused-checked made (Rom fault) answer = absurd answer
   refused-checked made (Certificate line cause) answer = FaultyCertificate line cause made answer
-  refused-checked made (Proof line cause) answer = absurd answer
-  refused-checked made (NoCertificate obstacle) answer = absurd answer
-  refused-checked made (NoTiming why) answer = absurd answer
   refused-checked made NoMemory answer = tt
+  refused-checked made _ answer = absurd answer
 
   pub refused-certificate :
       (made : Assembled source) (rom : List ℕ) (refusal : Refusal) → rom ≡ rom_in source → CertificateAnswers {Z = Global} rom text exits (Err refusal)
@@ -88,20 +55,9 @@ module _ (source text : List ℕ) (exits : Bool) where
 -- a source of a routine isn't assembled
 module _ (source : List ℕ) (entry : Entry) (p k : ℕ) where
   pub refused-timing : (refusal : Refusal) → SourceAnswers Cdp1802 source (Err refusal) → RefusedBy (TimingComes source entry p k) refusal
-  refused-timing Usage answer = absurd answer
-  refused-timing (Unread name) answer = absurd answer
-  refused-timing (TooLarge kind) answer = absurd answer
-  refused-timing (Script line cause) answer = absurd answer
-  refused-timing (Command line cause) answer = absurd answer
   refused-timing (Source line cause) answer = Unassembled line cause answer
-  refused-timing (Misfit misfit) answer = absurd answer
-  refused-timing (State fault) answer = absurd answer
-  refused-timing (Rom fault) answer = absurd answer
-  refused-timing (Certificate line cause) answer = absurd answer
-  refused-timing (Proof line cause) answer = absurd answer
-  refused-timing (NoCertificate obstacle) answer = absurd answer
-  refused-timing (NoTiming why) answer = absurd answer
   refused-timing NoMemory answer = tt
+  refused-timing _ answer = absurd answer
 
   -- its entry has no number
   pub refused-entry :
@@ -110,17 +66,6 @@ module _ (source : List ℕ) (entry : Entry) (p k : ℕ) where
 
 module _ (e : Edition) (game text : List ℕ) where
   pub refused-proof : (refusal : Refusal) → ProofAnswers e game text (Err refusal) → RefusedBy (SafeComes e game text) refusal
-  refused-proof Usage answer = absurd answer
-  refused-proof (Unread name) answer = absurd answer
-  refused-proof (TooLarge kind) answer = absurd answer
-  refused-proof (Script line cause) answer = absurd answer
-  refused-proof (Command line cause) answer = absurd answer
-  refused-proof (Source line cause) answer = absurd answer
-  refused-proof (Misfit misfit) answer = absurd answer
-  refused-proof (State fault) answer = absurd answer
-  refused-proof (Rom fault) answer = absurd answer
-  refused-proof (Certificate line cause) answer = absurd answer
   refused-proof (Proof line cause) answer = FaultyProof line cause answer
-  refused-proof (NoCertificate obstacle) answer = absurd answer
-  refused-proof (NoTiming why) answer = absurd answer
   refused-proof NoMemory answer = tt
+  refused-proof _ answer = absurd answer
