@@ -1,9 +1,9 @@
 //! The two-pass assembler of the CDP1802 and of CHIP-8: a source text becomes bytes at addresses, names with their values, or its first
 //! fault. It stands on `asm_lex`, which takes one line apart, and on the opcodes of `vip_isa` and `chip8_words`. The layers above may rely
 //! on this: `assemble` answers what `IsAssembly` in `specs/Made.antt` says, or the first fault as `HasFirstFault` in `specs/Sources.antt`
-//! says, want of memory aside, and the readers of `Assembly` show it; `check` answers every fault, as `told` in `specs/Told.antt` says, and the first of them
-//! is that one. The instructions are those of RCA's data sheet of the CDP1802 and of
-//! its manual of CHIP-8; the language of the lines is this project's profile (`docs/SOURCES.md`).
+//! says, want of memory aside, and the readers of `Assembly` show it; `check` answers every fault and every note, as `told` and `note_at` in
+//! `specs/Told.antt` say, and the first of the faults is that one. The instructions are those of RCA's data sheet of the CDP1802 and of its manual of
+//! CHIP-8; the language of the lines is this project's profile (`docs/SOURCES.md`).
 //!
 //! Pass 1 gives each line its address and each name its value, pass 2 the bytes.
 #![tactic(auto)]

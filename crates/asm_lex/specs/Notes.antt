@@ -61,5 +61,6 @@ comment_of line = behind_first is_semicolon line
 -- of a line of at most 255 bytes
 unfoldable pub note_in : Isa → Names → List ℕ → Option Place
 note_in isa names line =
-    if nat_le (length line) 255 && begins_instruction isa (code_of line) then option_and_then (note_from isa names (length (code_of line) + 1)) (comment_of line)
-    else None
+    option_and_then
+    (λ comment. if nat_le (length line) 255 && begins_instruction isa (code_of line) then note_from isa names (length (code_of line) + 1) comment else None)
+    (comment_of line)

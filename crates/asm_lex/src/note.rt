@@ -102,11 +102,9 @@ fn comment_of(line: &[u8]) -> Option<(usize, &[u8])>
 pub fn note_in(isa: Isa, names: &Symbols, line: &[u8]) -> Option<Place>
     ensures { result ≡ note_in isa (value_in names.now) line.now }
 {
+    let (start, comment) = comment_of(line)?;
     if line.len() > 255 || !begins_instruction(isa, line) {
         return None;
     }
-    match comment_of(line) {
-        Some((start, comment)) => note_from(isa, names, start, comment),
-        None => None,
-    }
+    note_from(isa, names, start, comment)
 }
