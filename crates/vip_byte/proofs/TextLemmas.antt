@@ -1,5 +1,5 @@
 -- The first line of a text and the first word of a line.
-use Rattle.std.proofs.Common.{◌≡◌, ℕ, suc, ◌+◌, ◌-◌, ◌<◌, ◌≤◌, Bool, true, false, not, eqb, List, [], ◌∷◌, length, take, drop, get_or, filter, refl, sym, ap, ◌∙◌, arith, inl, inr, add-one}
+use Rattle.std.proofs.Common.{◌≡◌, ℕ, zero, suc, ◌+◌, ◌-◌, ◌<◌, ◌≤◌, Bool, true, false, not, eqb, List, [], ◌∷◌, length, take, drop, get_or, filter, refl, sym, ap, ◌∙◌, arith, inl, inr, add-one}
 use Rattle.std.specs.List.{slice_split, position_or_len, prefix_len, before_first, after_first}
 use Rattle.std.specs.Str.Lines.{lines, lines_of_parts, strip_carriage_return}
 use Rattle.std.proofs.Math.ListN.{drop_of_length-le}
@@ -145,3 +145,13 @@ pub length-lines : (text : List ℕ) → length (lines text) ≤ length text + 1
 length-lines text =
     let parts = slice_split (λ byte. eqb byte 10) text in
     omega (arith, length-lines_of_parts parts, length-slice_split (λ byte. eqb byte 10) text, count_by-le-length (λ byte. eqb byte 10) text)
+
+-- so many of the first bytes pass, and the next one doesn't
+pub prefix_len_is : (passes : ℕ → Bool) (bytes : List ℕ) (count : ℕ) → count ≤ length bytes
+    → ((k : ℕ) → k < count → passes (get_or bytes k 0) ≡ true) → (count < length bytes → passes (get_or bytes count 0) ≡ false)
+    → count ≡ prefix_len passes bytes
+prefix_len_is passes [] count within before behind = omega arith
+prefix_len_is passes (byte ∷ bytes) zero within before behind = rw (behind (omega arith)) refl
+prefix_len_is passes (byte ∷ bytes) (suc count) within before behind =
+    let rest = prefix_len_is passes bytes count (omega arith) (λ k lt. before (suc k) (omega arith)) (λ lt. behind (omega arith)) in
+    rw (before 0 (omega arith)) (omega (arith, rest))

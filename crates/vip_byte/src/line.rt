@@ -71,7 +71,12 @@ fn line_len(text: &[u8]) -> usize
     ensures end { result ≡ position_or_len (λ byte. byte == 10) text.now }
     ensures within { result ≤ length text.now }
 {
-    text.iter().take_while(|byte| **byte != b'\n').count()
+    for (place, byte) in text.iter().enumerate() {
+        if *byte == b'\n' {
+            return place;
+        }
+    }
+    text.len()
 }
 
 // The line without a carriage return at its end.
@@ -143,7 +148,12 @@ fn blanks_len(line: &[u8]) -> usize
     ensures end { result ≡ prefix_len is_blank line.now }
     ensures within { result ≤ length line.now }
 {
-    line.iter().take_while(|byte| is_blank(**byte)).count()
+    for (place, byte) in line.iter().enumerate() {
+        if !is_blank(*byte) {
+            return place;
+        }
+    }
+    line.len()
 }
 
 // How many bytes come before the first blank.
@@ -151,7 +161,12 @@ fn word_len(line: &[u8]) -> usize
     ensures end { result ≡ position_or_len is_blank line.now }
     ensures within { result ≤ length line.now }
 {
-    line.iter().take_while(|byte| !is_blank(**byte)).count()
+    for (place, byte) in line.iter().enumerate() {
+        if is_blank(*byte) {
+            return place;
+        }
+    }
+    line.len()
 }
 
 /// Whether a byte is a space or a tab.

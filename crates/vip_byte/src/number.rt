@@ -1,7 +1,6 @@
 //! Reading a number from a text of digits.
 
-ghost use Rattle.std.specs.Prelude.{◌≡◌, ◌+◌, ◌*◌, ◌≤◌, IfOk, MatchOption};
-ghost use Rattle.std.specs.Option.{SomeIff};
+ghost use Rattle.std.specs.Prelude.{◌≡◌, ◌≤◌, IfOk};
 ghost use Rattle.vip_byte.specs.Number.{decimal_number, hex_number, number};
 
 use thiserror::Error;
@@ -40,7 +39,8 @@ pub fn read_hex(text: &[u8], most: u64) -> Result<u64, NumFault>
     read_number(text, 16, most)
 }
 
-// All digits are looked at, also where the value is too large already, since a byte that is no digit comes first.
+// All digits are looked at, also where the value is too large already, since a byte that is no digit comes first. A value that is too
+// large is kept as the least of these.
 fn read_number(text: &[u8], base: u32, most: u64) -> Result<u64, NumFault>
     requires least_base { 2 ≤ base }
     requires most_base { base ≤ 36 }
@@ -50,23 +50,17 @@ fn read_number(text: &[u8], base: u32, most: u64) -> Result<u64, NumFault>
     if text.is_empty() {
         return Err(NumFault::Empty);
     }
-    let mut value = Some(0);
+    let too_large = u128::from(most) + 1;
+    let mut value = 0;
     for byte in text {
         let Some(digit) = char::from(*byte).to_digit(base) else {
             return Err(NumFault::BadDigit);
         };
-        value = with_digit(value, base, digit, most);
+        value = (value * u128::from(base) + u128::from(digit)).min(too_large);
     }
-    value.ok_or(NumFault::TooLarge)
-}
-
-// The value with one digit more behind it, where that is at most `most`; none stays none.
-fn with_digit(value: Option<u64>, base: u32, digit: u32, most: u64) -> Option<u64>
-    ensures { MatchOption value (result ≡ None)
-        (λ before. SomeIff result (before * base + digit ≤ most) (before * base + digit)) }
-{
-    let value = value?
-        .checked_mul(u64::from(base))?
-        .checked_add(u64::from(digit))?;
-    if value <= most { Some(value) } else { None }
+    if value == too_large {
+        Err(NumFault::TooLarge)
+    } else {
+        Ok(value as u64)
+    }
 }
