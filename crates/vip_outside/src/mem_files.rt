@@ -79,10 +79,13 @@ impl MemFiles {
     fn is_named(&self) -> bool
         ensures { result ≡ is_named self.now }
     {
-        self.named
-            .as_slice()
-            .iter()
-            .any(|call| u64::from(*call) == self.calls)
+        let named = self.named.as_slice();
+        for call in named {
+            if u64::from(*call) == self.calls {
+                return true;
+            }
+        }
+        false
     }
 
     /// The bytes of the file of this name.

@@ -79,12 +79,13 @@ impl MemSink {
     fn named_kept(&self) -> Option<usize>
         ensures { result ≡ named_kept self.now }
     {
-        let entry = self
-            .named
-            .as_slice()
-            .iter()
-            .find(|entry| entry.0 == self.calls)?;
-        Some(entry.1)
+        let named = self.named.as_slice();
+        for entry in named {
+            if entry.0 == self.calls {
+                return Some(entry.1);
+            }
+        }
+        None
     }
 
     /// Whether the next put of a piece is a fault.

@@ -44,9 +44,10 @@ impl<S: System> RealFiles<S> {
 fn read_fail(error: Error) -> ReadFail
     ensures { IsNotAbsent result }
 {
-    match error.kind() {
-        ErrorKind::OutOfMemory => ReadFail::NoMemory,
-        _ => ReadFail::Failed,
+    if error.kind() == ErrorKind::OutOfMemory {
+        ReadFail::NoMemory
+    } else {
+        ReadFail::Failed
     }
 }
 
