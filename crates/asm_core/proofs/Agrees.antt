@@ -1,5 +1,5 @@
 -- No fault is told exactly where a source has none, and the first one told is its first one.
-use Rattle.std.proofs.Common.{◌≡◌, ◌+◌, ◌<◌, ◌≤◌, ℕ, zero, suc, refl, List, length, sym, ◌∙◌, ap, arith, true, false, cond, Some, None, Option, Ok, Err, Result, inl, inr, below_more}
+use Rattle.std.proofs.Common.{◌≡◌, ◌+◌, ◌<◌, ◌≤◌, ℕ, zero, suc, refl, List, length, sym, subst, ◌∙◌, ap, arith, true, false, cond, Some, None, Option, Ok, Err, Result, inl, inr, below_more}
 use Rattle.std.specs.Prelude.{is_some, option_map}
 use Rattle.std.specs.Option.{option_or}
 use Rattle.std.specs.Result.{result_err}
@@ -7,15 +7,18 @@ use Rattle.std.proofs.lemmas.Bool.{cond-true, cond-false, both_ways}
 use Rattle.asm_lex.specs.declared.shape.Isa.{Isa}
 use Rattle.asm_core.specs.declared.findings.Finding.{Finding}
 use Rattle.asm_core.specs.declared.fault.AsmCause.{AsmCause}
+use Rattle.asm_core.specs.declared.fault.AsmFault.{AsmFault}
+use Rattle.asm_core.specs.Made.{IsFirstOf}
 use Rattle.asm_core.specs.declared.layout.Laid.{Laid}
 use Rattle.asm_lex.specs.Names.{Names}
-use Rattle.asm_core.specs.Layout.{laid_out, label_in}
-use Rattle.asm_core.specs.Sources.{Known, known_after, known_at, line_at, names_before, address_of, fault_1, fault_2, fault_with, bytes_of, cell_of, cell_before, NoFault, IsFirstFault}
-use Rattle.asm_core.specs.Told.{Seen, seen_after, seen_at, finding_from, finding_1, told_1, kept_before, cause_2, told_2, has_fault_1, told, IsEachOf, AreTold, AgreesWithFaults}
-use Rattle.asm_core.proofs.Cells.{each_none-any, any-each_none}
-use Rattle.asm_core.proofs.PassOne.{known_at-next}
-use Rattle.asm_core.proofs.PassTwo.{no_error}
-use Rattle.asm_core.proofs.Surveys.{seen_at-next}
+use Rattle.asm_core.specs.Layout.{laid_out}
+use Rattle.asm_core.specs.Sources.{line_at, names_before, address_of, fault_1, fault_2, fault_with, bytes_of, cell_of, cell_before, NoFault, HasFirstFault}
+use Rattle.asm_core.specs.Told.{Seen, seen_at, finding_from, finding_1, told_1, kept_before, cause_2, told_2, has_fault_1, told, IsEachOf, AreTold, NothingTold, AgreesWithFaults}
+use Rattle.asm_core.specs.declared.table.Cell.{Cell}
+use Rattle.asm_core.specs.Passes.{Planned, LaysOut, IsFound, IsFirstFinding, IsFirstOfFindings}
+use Rattle.asm_core.proofs.Cells.{entry, each_none-any, any-each_none}
+use Rattle.asm_core.proofs.PassTwo.{is_assembly}
+use Rattle.asm_core.proofs.Surveys.{seen_clean}
 
 -- the cause that is told
 abbrev cause_told : Option Finding → Option AsmCause
@@ -38,34 +41,6 @@ walk f g (suc count) same none =
     λ i below. more i (omega arith)
 
 module _ (isa : Isa) (source : List (List ℕ)) where
-  fault-none : (i : ℕ) → fault_1 isa source i ≡ None → (laid : Laid) × (laid_out isa (names_before isa source i) (address_of isa source i) (line_at source i) ≡ Ok laid)
-  unfolding fault_1
-  fault-none i e = no_error (laid_out isa (names_before isa source i) (address_of isa source i) (line_at source i)) e
-
-  seen_first-clean : seen_at isa source 0 ≡ record { known = known_at isa source 0; faulty = false }
-  unfolding seen_at known_at
-  seen_first-clean = refl
-
-  -- as far as no line is faulty, what is seen is what the passes know
-  seen_clean : (i : ℕ) → i ≤ length source → NoFault (fault_1 isa source) i → seen_at isa source i ≡ record { known = known_at isa source i; faulty = false }
-  seen_clean zero inside none = seen_first-clean
-  seen_clean (suc i) inside none =
-      let step : suc i ≡ i + 1 = omega arith in
-      let before = seen_clean i (omega arith) (λ k below. none k (omega arith)) in
-      let laid = fault-none i (none i (omega arith)) in
-      let names = names_before isa source i in
-      let line = line_at source i in
-      let label = label_in isa names line in
-      let after : known_at isa source (i + 1) ≡ known_after (known_at isa source i) label (Ok laid.0) =
-      known_at-next isa source i (omega arith) ∙ ap (known_after (known_at isa source i) label) laid.1 in
-      let f : Known → Seen = λ known. record { known = known; faulty = false } in
-      ap (seen_at isa source) step
-      ∙ seen_at-next isa source i (omega arith)
-      ∙ ap (λ (s : Seen). seen_after isa s line (laid_out isa s.known.names s.known.at line)) before
-      ∙ ap (seen_after isa (f (known_at isa source i)) line) laid.1
-      ∙ ap f (sym after)
-      ∙ ap (λ n. f (known_at isa source n)) (sym step)
-
   finding-cause : (names : Names) (line : List ℕ) (found : Result Laid AsmCause) → cause_told (finding_from isa names false line found) ≡ result_err found
   finding-cause names line (Ok laid) = refl
   finding-cause names line (Err cause) = refl
@@ -73,7 +48,7 @@ module _ (isa : Isa) (source : List (List ℕ)) where
   same_1 : (i : ℕ) → i < length source → NoFault (fault_1 isa source) i → cause_told (told_1 isa source i) ≡ fault_1 isa source i
   unfolding told_1 fault_1
   same_1 i below none =
-      ap (λ s. cause_told (finding_1 isa s (line_at source i))) (seen_clean i (omega arith) none)
+      ap (λ s. cause_told (finding_1 isa s (line_at source i))) (seen_clean isa source i (omega arith) none)
       ∙ finding-cause (names_before isa source i) (line_at source i) (laid_out isa (names_before isa source i) (address_of isa source i) (line_at source i))
 
   -- as far as no line is faulty, each line's bytes are kept
@@ -154,13 +129,45 @@ module _ (isa : Isa) (source : List (List ℕ)) where
         (i, refl, inr (no_fault_1 e, record { inside = first.inside; here = here; earlier = before })));
   }
 
-  -- what is told of each line where pass 1 has a first fault, and where it has none
-  pub told-faulty : (i : ℕ) (cause : AsmCause) → IsFirstFault (fault_1 isa source) (length source) i cause → (found : List (Option Finding))
+  -- a line is faulty where pass 1 has a fault
+  pub faulty-not_none : (seen_at isa source (length source)).faulty ≡ true → NoFault (fault_1 isa source) (length source) → ⊥
+  faulty-not_none faulty none =
+      let both : false ≡ true = sym (ap (λ (s : Seen). s.faulty) (seen_clean isa source (length source) (omega arith) none)) ∙ faulty in absurd (cc)
+
+  -- what is told of each line where pass 1 has a fault, and where it has none
+  pub told-faulty : (seen_at isa source (length source)).faulty ≡ true → (found : List (Option Finding))
       → IsEachOf (told_1 isa source) (length source) found → AreTold isa source found
-  told-faulty i cause first found each = by_pass
+  told-faulty faulty found each = by_pass
       (λ e. record { count = each.count; each = λ k below. each.each k below ∙ sym (told-1 e k) })
-      (λ e. let both : None ≡ Some cause = sym (no_fault_1 e i first.inside) ∙ first.here in absurd (cc))
+      (λ e. absurd (faulty-not_none faulty (no_fault_1 e)))
 
   pub told-clean : NoFault (fault_1 isa source) (length source) → (found : List (Option Finding))
       → IsEachOf (told_2 isa source) (length source) found → AreTold isa source found
   told-clean none found each = record { count = each.count; each = λ k below. each.each k below ∙ sym (told-2 (clean_1 none) k) }
+
+  -- where nothing is told, the lines stand where they were placed, and have their bytes
+  pub nothing-faulty : (seen_at isa source (length source)).faulty ≡ true → NothingTold isa source → ⊥
+  nothing-faulty faulty all = faulty-not_none faulty (agrees.none all).0
+
+  pub found_is : (plan : Planned) → LaysOut isa source (length source) plan → (cells : List (Option Cell)) → length cells ≡ 65536
+      → ((address : ℕ) → entry cells address ≡ kept_before isa source (length source) address) → NothingTold isa source → IsFound isa source plan cells
+  found_is plan laid cells count kept all =
+      let none = (agrees.none all).1 in
+      record {
+        cells_count = count;
+        lines_count = omega (arith, laid.count_is, laid.values_count);
+        is = is_assembly isa source plan cells laid none (λ address. kept address ∙ kept_clean (length source) none address);
+      }
+
+  -- the first finding is the first fault
+  pub first_is : (found : List (Option Finding)) → AreTold isa source found → (i : ℕ) (finding : Finding) → IsFirstFinding found i finding
+      → HasFirstFault isa source (i + 1) finding.cause
+  first_is found all i finding first =
+      agrees.first i finding (record {
+        inside = omega (arith, first.inside, all.count);
+        here = sym (all.each i (omega (arith, first.inside, all.count))) ∙ first.here;
+        earlier = λ k below. sym (all.each k (omega (arith, first.inside, all.count))) ∙ first.earlier k below;
+      })
+
+  pub first_of : (found : List (Option Finding)) → AreTold isa source found → (fault : AsmFault) → IsFirstOfFindings found fault → IsFirstOf isa source fault
+  first_of found all fault first = subst (IsFirstOf isa source) (sym first.2.1) (first_is found all first.0 first.1 first.2.0)

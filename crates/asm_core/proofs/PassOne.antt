@@ -1,10 +1,9 @@
 -- Pass 1, line by line.
-use Rattle.std.proofs.Common.{◌≡◌, ◌+◌, ◌<◌, ◌≤◌, ℕ, zero, suc, refl, List, [], ◌∷◌, ◌++◌, length, drop, get_or, sym, subst, ◌∙◌, ap, arith, None, Option, Ok, Err, Result, inl, inr, below_more}
+use Rattle.std.proofs.Common.{◌≡◌, ◌+◌, ◌<◌, ◌≤◌, ℕ, zero, suc, refl, List, [], ◌∷◌, ◌++◌, length, drop, get_or, sym, subst, ◌∙◌, ap, arith, None, Option, Ok, inl, inr, below_more}
 use Rattle.std.specs.Result.{result_err}
 use Rattle.std.proofs.lemmas.Bool.{cases_lt}
 use Rattle.std.proofs.lemmas.List.{drop_more, drop_all, length_push, get_or_push, get_or_append_left}
 use Rattle.std.proofs.lemmas.List.Sums.{fold_more}
-use Rattle.asm_core.specs.declared.fault.AsmCause.{AsmCause}
 use Rattle.asm_core.specs.declared.layout.Laid.{Laid}
 use Rattle.asm_lex.specs.declared.shape.Isa.{Isa}
 use Rattle.asm_lex.specs.declared.shape.Isa.TheVariants.{Cdp1802, Chip8}
@@ -16,10 +15,8 @@ use Rattle.asm_core.specs.declared.layout.LabelValue.TheVariants.{Address}
 use Rattle.asm_lex.specs.Ranges.{origin_of}
 use Rattle.asm_core.specs.Names.{with_label}
 use Rattle.asm_core.specs.Layout.{laid_out, label_in, symbol_value}
-use Rattle.asm_core.specs.Sources.{Known, known_first, known_after, known_next, known_at, names_before, address_of, line_at, fault_1, value_from, label_value, IsFirstFault}
-use Rattle.asm_core.specs.Passes.{Planned, plan_with, AddsLine, LaysOut, IsFaultOf, IsFirstIn}
-use Rattle.asm_core.specs.declared.fault.AsmFault.{AsmFault}
-use Rattle.asm_core.specs.declared.fault.AsmFault.TheVariants.{Fault, NoMemory}
+use Rattle.asm_core.specs.Sources.{Known, known_first, known_after, known_next, known_at, names_before, address_of, line_at, fault_1, value_from, label_value}
+use Rattle.asm_core.specs.Passes.{Planned, plan_with, AddsLine, LaysOut}
 
 -- where the first line begins
 abbrev pub first_addresses : Isa → List ℕ
@@ -167,19 +164,3 @@ module _ (isa : Isa) (source : List (List ℕ)) where
               get_or_push plan.values laid.value (Address 0) i (omega (arith, so_far.values_count)) ∙ sym value_is ∙ ap (label_value isa source) (sym last)
         ];
       }
-
-    pub first_fault : (at : ℕ) (line : List ℕ) (cause : AsmCause) → number < length source → at ≡ address_of isa source number
-        → line_at source number ≡ line → laid_out isa (value_in plan.names) at line ≡ Err cause
-        → IsFirstFault (fault_1 isa source) (length source) number cause
-    unfolding fault_1
-    first_fault at line cause below place here e = record {
-      inside = below;
-      here = ap result_err (laid_here number at line plan.names so_far.named place here ∙ e);
-      earlier = so_far.faultless;
-    }
-
--- the fault of a line is the first one of the pass
-pub first_in : {X : Type 0} (found : Result X AsmCause) (fault : ℕ → Option AsmCause) (count number : ℕ) (f : AsmFault) → IsFaultOf found (number + 1) f
-    → ((cause : AsmCause) → found ≡ Err cause → IsFirstFault fault count number cause) → IsFirstIn fault count f
-first_in found fault count number (Fault line cause) is first = (number, is.0, first cause is.1)
-first_in found fault count number NoMemory is first = tt

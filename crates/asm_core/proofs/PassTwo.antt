@@ -1,7 +1,6 @@
 -- Pass 2, line by line.
-use Rattle.std.proofs.Common.{◌≡◌, ◌+◌, ◌-◌, ◌*◌, ◌/◌, ◌%◌, ◌<◌, ◌≤◌, ℕ, suc, refl, Bool, List, [], ◌∷◌, length, sym, ◌∙◌, ap, arith, true, false, cond, Some, None, Option, Ok, Err, Result, inl, below_more}
+use Rattle.std.proofs.Common.{◌≡◌, ◌+◌, ◌-◌, ◌*◌, ◌/◌, ◌%◌, ◌<◌, ◌≤◌, ℕ, suc, refl, Bool, List, [], ◌∷◌, length, sym, ◌∙◌, ap, arith, true, false, cond, Some, None, Option, Ok, Err, Result}
 use Rattle.std.specs.Prelude.{◌&&◌, map, flat_map, replicate, ◌==◌, nat_le, nat_lt, is_some, is_err}
-use Rattle.std.specs.Option.{option_or}
 use Rattle.std.specs.List.{list_any}
 use Rattle.std.specs.Result.{result_err, result_unwrap_or, result_map_both}
 use Rattle.std.proofs.lemmas.Bool.{and_parts, cond-true, leb-true, eqb-true, eqb-false, eq-eqb}
@@ -21,7 +20,7 @@ use Rattle.asm_lex.specs.Words.{size_at}
 use Rattle.asm_core.specs.declared.layout.Laid.{Laid}
 use Rattle.asm_core.specs.declared.table.Cell.{Cell}
 use Rattle.asm_core.specs.declared.fault.AsmCause.{AsmCause}
-use Rattle.asm_core.specs.declared.fault.AsmCause.TheVariants.{Overlap, Duplicate, OffPage, TooLarge}
+use Rattle.asm_core.specs.declared.fault.AsmCause.TheVariants.{Duplicate, OffPage, TooLarge}
 use Rattle.asm_lex.specs.declared.shape.Isa.{Isa}
 use Rattle.asm_lex.specs.declared.shape.Isa.TheVariants.{Cdp1802, Chip8}
 use Rattle.asm_lex.specs.declared.shape.SymbolValue.TheVariants.{Number, Register}
@@ -34,11 +33,9 @@ use Rattle.asm_core.specs.declared.layout.LabelValue.TheVariants.{Address, Given
 use Rattle.asm_core.specs.Names.{operand_value, first_operand}
 use Rattle.asm_core.specs.Layout.{laid, laid_out, label_in, laid_parts, from_parts, judged, placed, is_duplicate, is_too_large, page_above, at_least, org_address, value_cause}
 use Rattle.asm_core.specs.Encoding.{word_bytes, is_undefined, collected, values_of, long_branch, to_page, short_branch, immediate, instruction, with_number, op_bytes, encoded_parts, encoded}
-use Rattle.asm_core.specs.Sources.{Known, known_after, known_at, names_before, address_of, all_names, line_at, fault_1, fault_2, value_from, label_value, bytes_of, cell_of, cell_in, cell_before, fault_with, NoFault, IsFirstFault}
-use Rattle.asm_core.specs.Made.{IsAssembly, IsFirstOf}
-use Rattle.asm_core.specs.Passes.{Planned, LaysOut, PutsLine, HasBytes, IsCauseOf, IsFirstIn}
-use Rattle.asm_core.specs.declared.fault.AsmFault.{AsmFault}
-use Rattle.asm_core.specs.declared.fault.AsmFault.TheVariants.{Fault, NoMemory}
+use Rattle.asm_core.specs.Sources.{Known, known_after, known_at, names_before, address_of, all_names, line_at, fault_1, fault_2, value_from, label_value, bytes_of, cell_before, NoFault}
+use Rattle.asm_core.specs.Made.{IsAssembly}
+use Rattle.asm_core.specs.Passes.{Planned, LaysOut}
 use Rattle.asm_core.proofs.PassOne.{known_at-next}
 use Rattle.asm_core.proofs.Cells.{entry}
 
@@ -329,78 +326,17 @@ module _ (isa : Isa) (source : List (List ℕ)) where
         ∙ ap (λ n. encoded isa (names_before isa source number) (value_in plan.names) at n (line_at source number)) after
         ∙ ap (encoded isa (names_before isa source number) (value_in plan.names) at next) here
 
-    module _ (cells : List (Option Cell)) (so_far : HasBytes isa source number cells) (line : List ℕ) (at next : ℕ) (here : line_at source number ≡ line) (place : at ≡ address_of isa source number) (place_next : next ≡ address_of isa source (number + 1)) where
-      same_cells : entry cells ≡ cell_before isa source number
-      same_cells = λ i address. so_far.bytes address i
-
-      pub fault_here : fault_2 isa source number ≡ fault_with (entry cells) at (encoded isa (names_before isa source number) (value_in plan.names) at next line)
-      unfolding fault_2
-      fault_here =
-          ap (λ given. fault_with given (address_of isa source number) (bytes_of isa source number)) (sym same_cells)
-          ∙ ap (λ a. fault_with (entry cells) a (bytes_of isa source number)) (sym place)
-          ∙ ap (fault_with (entry cells) at) (bytes_here line at next here place place_next)
-
-      none_here : (new : List (Option Cell))
-          → PutsLine cells new (number + 1) at (encoded isa (names_before isa source number) (value_in plan.names) at next line)
-          → fault_2 isa source number ≡ None
-      none_here new puts =
-          fault_here ∙ ap (fault_with (entry cells) at) puts.is
-          ∙ ap (λ b. cond b (Some Overlap) None) puts.free
-
-      cell_here : (new : List (Option Cell))
-          (puts : PutsLine cells new (number + 1) at (encoded isa (names_before isa source number) (value_in plan.names) at next line)) (address : ℕ)
-          → cell_of isa source number address ≡ cell_in (number + 1) at puts.bytes address
-      cell_here new puts address =
-          ap (λ r. cell_in (number + 1) (address_of isa source number) (result_unwrap_or r []) address)
-          (bytes_here line at next here place place_next ∙ puts.is)
-          ∙ ap (λ a. cell_in (number + 1) a puts.bytes address) (sym place)
-
-      pub has_bytes_more : (new : List (Option Cell))
-          → PutsLine cells new (number + 1) at (encoded isa (names_before isa source number) (value_in plan.names) at next line)
-          → HasBytes isa source (number + 1) new
-      unfolding cell_before
-      has_bytes_more new puts = record {
-        faultless = below_more (λ i. fault_2 isa source i ≡ None) number so_far.faultless (none_here new puts);
-        bytes = λ address.
-            let step : suc number ≡ number + 1 = omega arith in
-            let grown : cell_before isa source (suc number) address ≡ cell_before isa source (number + 1) address =
-            ap (λ n. cell_before isa source n address) step in
-            puts.put address
-            ∙ ap (λ o. option_or o (cell_in (number + 1) at puts.bytes address)) (so_far.bytes address)
-            ∙ ap (option_or (cell_before isa source number address)) (sym (cell_here new puts address))
-            ∙ grown;
-      }
-
-      pub first_fault_2 : (cause : AsmCause)
-          → fault_with (entry cells) at (encoded isa (names_before isa source number) (value_in plan.names) at next line) ≡ Some cause
-          → IsFirstFault (fault_2 isa source) (length source) number cause
-      first_fault_2 cause e = record { inside = below; here = fault_here ∙ e; earlier = so_far.faultless }
-
-pub has_bytes_none : (isa : Isa) (source : List (List ℕ)) (cells : List (Option Cell)) → ((address : ℕ) → entry cells address ≡ None)
-    → HasBytes isa source 0 cells
-unfolding cell_before
-has_bytes_none isa source cells empty = record { faultless = λ i below. absurd (omega arith); bytes = empty }
-
-pub first_in_2 : (found : Option AsmCause) (fault : ℕ → Option AsmCause) (count number : ℕ) (f : AsmFault) → IsCauseOf found (number + 1) f
-    → ((cause : AsmCause) → found ≡ Some cause → IsFirstFault fault count number cause) → IsFirstIn fault count f
-first_in_2 found fault count number (Fault line cause) is first = (number, is.0, first cause is.1)
-first_in_2 found fault count number NoMemory is first = tt
-
 -- both passes give the assembly
 pub is_assembly : (isa : Isa) (source : List (List ℕ)) (plan : Planned) (cells : List (Option Cell)) → LaysOut isa source (length source) plan
-    → HasBytes isa source (length source) cells
+    → NoFault (fault_2 isa source) (length source) → ((address : ℕ) → entry cells address ≡ cell_before isa source (length source) address)
     → IsAssembly isa source (record { cells = cells; names = plan.names; addresses = plan.addresses; values = plan.values })
-is_assembly isa source plan cells laid has = record {
+is_assembly isa source plan cells laid none bytes = record {
   no_fault_1 = laid.faultless;
-  no_fault_2 = has.faultless;
-  cells = λ address below. has.bytes address;
+  no_fault_2 = none;
+  cells = λ address below. bytes address;
   names = laid.named;
   addresses = laid.placed;
   low = laid.low;
   count = laid.values_count;
   values = laid.valued;
 }
-
-pub first_of_1 : (isa : Isa) (source : List (List ℕ)) (f : AsmFault) → IsFirstIn (fault_1 isa source) (length source) f → IsFirstOf isa source f
-first_of_1 isa source (Fault line cause) first = (first.0, first.1, inl first.2)
-first_of_1 isa source NoMemory first = tt

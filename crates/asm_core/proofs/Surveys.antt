@@ -1,5 +1,5 @@
 -- What is told of the lines of a source, one after another.
-use Rattle.std.proofs.Common.{◌≡◌, ◌+◌, ◌<◌, ◌≤◌, ℕ, suc, Bool, List, [], ◌∷◌, ◌++◌, length, sym, ◌∙◌, ap, arith, true, false, cond, Some, None, Option, Ok, Result, inl, inr}
+use Rattle.std.proofs.Common.{◌≡◌, ◌+◌, ◌<◌, ◌≤◌, ℕ, zero, suc, refl, subst, Bool, List, [], ◌∷◌, ◌++◌, length, sym, ◌∙◌, ap, arith, true, false, cond, Some, None, Option, Ok, Result, inl, inr}
 use Rattle.std.specs.Prelude.{is_some, option_map, MatchBool}
 use Rattle.std.specs.Option.{option_or}
 use Rattle.std.specs.Result.{result_unwrap_or}
@@ -12,19 +12,23 @@ use Rattle.asm_lex.specs.Lines.{parsed, Reads}
 use Rattle.asm_lex.specs.Names.{Names, value_in}
 use Rattle.asm_lex.specs.Notes.{note_in}
 use Rattle.asm_core.specs.declared.findings.Finding.{Finding}
+use Rattle.asm_core.specs.declared.findings.LinePlan.{LinePlan}
 use Rattle.asm_core.specs.declared.findings.Looked.{Looked}
+use Rattle.asm_core.specs.declared.layout.Laid.{Laid}
+use Rattle.asm_core.specs.declared.layout.LabelValue.{LabelValue}
 use Rattle.asm_core.specs.declared.fault.AsmCause.{AsmCause}
 use Rattle.asm_core.specs.declared.table.Cell.{Cell}
 use Rattle.asm_core.specs.Encoding.{encoded}
-use Rattle.asm_core.specs.Passes.{Planned, LaysOut}
-use Rattle.asm_core.specs.Sources.{line_at, names_before, address_of, all_names, fault_with, overlaps, bytes_of, cell_in}
+use Rattle.asm_core.specs.Passes.{Planned, plan_with, word_at, line_plan, AddsLine, LaysOut}
+use Rattle.asm_core.specs.Layout.{laid_out, label_in}
+use Rattle.asm_core.specs.Sources.{Known, known_after, known_at, line_at, names_before, address_of, all_names, fault_1, fault_with, overlaps, bytes_of, cell_in, NoFault}
 use Rattle.asm_core.specs.declared.fault.AsmCause.TheVariants.{Overlap}
-use Rattle.asm_core.specs.Surveys.{Table, known, seen, Learnt, Guesses, Looks, Tells}
+use Rattle.asm_core.specs.Surveys.{Table, known, seen, Guesses, Looks, PutsLine}
 use Rattle.asm_core.specs.Told.{Seen, guessed_from, seen_after, finding_from, seen_first, seen_next, seen_at, finding_1, told_1, note_at, kept_before, cause_2, finding_2, word_from, told_2, IsEachOf}
 use Rattle.asm_core.proofs.Cells.{entry, second_none}
 use Rattle.asm_lex.specs.Ranges.{origin_of}
-use Rattle.asm_core.proofs.PassOne.{origin_low}
-use Rattle.asm_core.proofs.PassTwo.{bytes_here}
+use Rattle.asm_core.proofs.PassOne.{origin_low, known_at-next, lays_out_none, lays_out_more}
+use Rattle.asm_core.proofs.PassTwo.{bytes_here, bytes_fit, no_error}
 
 -- one value more
 pub each-none : {X : Type 0} (f : ℕ → Option X) (xs : List (Option X)) → xs ≡ [] → IsEachOf f 0 xs
@@ -47,6 +51,34 @@ module _ (isa : Isa) (source : List (List ℕ)) where
   unfolding seen_at
   seen_at-next number below = fold_more (seen_next isa) (seen_first isa) source number [] below
 
+  fault-none : (i : ℕ) → fault_1 isa source i ≡ None → (laid : Laid) × (laid_out isa (names_before isa source i) (address_of isa source i) (line_at source i) ≡ Ok laid)
+  unfolding fault_1
+  fault-none i e = no_error (laid_out isa (names_before isa source i) (address_of isa source i) (line_at source i)) e
+
+  seen_first-clean : seen_at isa source 0 ≡ record { known = known_at isa source 0; faulty = false }
+  unfolding seen_at known_at
+  seen_first-clean = refl
+
+  -- as far as no line is faulty, what is seen is what the passes know
+  pub seen_clean : (i : ℕ) → i ≤ length source → NoFault (fault_1 isa source) i → seen_at isa source i ≡ record { known = known_at isa source i; faulty = false }
+  seen_clean zero inside none = seen_first-clean
+  seen_clean (suc i) inside none =
+      let step : suc i ≡ i + 1 = omega arith in
+      let before = seen_clean i (omega arith) (λ k below. none k (omega arith)) in
+      let laid = fault-none i (none i (omega arith)) in
+      let names = names_before isa source i in
+      let line = line_at source i in
+      let label = label_in isa names line in
+      let after : known_at isa source (i + 1) ≡ known_after (known_at isa source i) label (Ok laid.0) =
+      known_at-next isa source i (omega arith) ∙ ap (known_after (known_at isa source i) label) laid.1 in
+      let f : Known → Seen = λ known. record { known = known; faulty = false } in
+      ap (seen_at isa source) step
+      ∙ seen_at-next i (omega arith)
+      ∙ ap (λ (s : Seen). seen_after isa s line (laid_out isa s.known.names s.known.at line)) before
+      ∙ ap (seen_after isa (f (known_at isa source i)) line) laid.1
+      ∙ ap f (sym after)
+      ∙ ap (λ n. f (known_at isa source n)) (sym step)
+
   -- what is found of the lines before a line
   pub record IsSeen (number : ℕ) (names : Table) (at : ℕ) (faulty : Bool) : Type 0 where
     pub is : seen names at faulty ≡ seen_at isa source number
@@ -66,7 +98,7 @@ module _ (isa : Isa) (source : List (List ℕ)) where
       ap (λ (s : Seen). note_in isa s.known.names line) so_far.is ∙ ap (note_in isa (seen_at isa source number).known.names) (sym here)
 
   module _ (number : ℕ) (old : Table) (at : ℕ) (faulty : Bool) (line : List ℕ) (new : Table) (looked : Looked) (so_far : IsSeen number old at faulty) (below : number < length source) (here : line_at source number ≡ line) (looks : Looks isa old at faulty line new looked) where
-    seen_same : seen new looked.next looked.faulty ≡ seen_next isa (seen old at faulty) line
+    seen_same : seen new looked.laid.next looked.faulty ≡ seen_next isa (seen old at faulty) line
     seen_same =
         let s = seen_next isa (seen old at faulty) line in
         let f : ℕ → Seen = λ n. record { known = record { at = n; names = value_in new }; faulty = looked.faulty } in
@@ -74,72 +106,118 @@ module _ (isa : Isa) (source : List (List ℕ)) where
         let h : Bool → Seen = λ faulty. record { known = record { at = s.known.at; names = s.known.names }; faulty = faulty } in
         ap f looks.next_is ∙ ap g (λ i name. looks.names name i) ∙ ap h looks.faulty_is
 
-    pub seen_more : IsSeen (number + 1) new looked.next looked.faulty
+    pub seen_more : IsSeen (number + 1) new looked.laid.next looked.faulty
     seen_more = record {
       is = seen_same ∙ ap (λ s. seen_next isa s line) so_far.is ∙ ap (seen_next isa (seen_at isa source number)) (sym here) ∙ sym (seen_at-next number below);
       low = looks.low;
     }
 
+    -- while no line is faulty, the lines are laid out as pass 1 says
+    pub plan_more : (addresses : List ℕ) (words : List (Option Word)) (values : List LabelValue)
+        → (faulty ≡ false → LaysOut isa source number (plan_with old addresses words values)) → looked.faulty ≡ false
+        → LaysOut isa source (number + 1)
+        (plan_with new (addresses ++ looked.laid.next ∷ []) (words ++ looked.word ∷ []) (values ++ looked.laid.value ∷ []))
+    plan_more addresses words values laid clean =
+        let step = looks.clean clean in
+        let before = laid step.0 in
+        let place : at ≡ address_of isa source number =
+        ap (λ (s : Seen). s.known.at) (so_far.is ∙ seen_clean number (omega arith) before.faultless) in
+        lays_out_more isa source number (plan_with old addresses words values) before at line new looked.word looked.laid below place here step.1
+
     pub told_here : looked.finding ≡ told_1 isa source number
     unfolding told_1
     told_here = looks.told ∙ ap (λ s. finding_1 isa s line) so_far.is ∙ ap (finding_1 isa (seen_at isa source number)) (sym here)
 
-  module _ (plan : Planned) (laid : LaysOut isa source (length source) plan) (number : ℕ) (below : number < length source) (cells : List (Option Cell)) (so_far : (address : ℕ) → entry cells address ≡ kept_before isa source number address) (line : List ℕ) (at next : ℕ) (here : line_at source number ≡ line) (place : at ≡ address_of isa source number) (place_next : next ≡ address_of isa source (number + 1)) (word : Option Word) (reads : Reads isa (names_before isa source number) line word) (new : List (Option Cell)) (told : Option Finding) (tells : Tells (finding_2 isa (value_in plan.names) at word line) cells new (number + 1) at (encoded isa (names_before isa source number) (value_in plan.names) at next line) told) where
-    same_kept : entry cells ≡ kept_before isa source number
-    same_kept = λ i address. so_far address i
+  module _ (plan : Planned) (laid : LaysOut isa source (length source) plan) (number : ℕ) (below : number < length source) (line : List ℕ) (here : line_at source number ≡ line) (planned : LinePlan) (is : planned ≡ line_plan plan number) where
+    place : planned.at ≡ address_of isa source number
+    place = ap (λ (p : LinePlan). p.at) is ∙ laid.placed number (omega arith)
 
-    made_is : bytes_of isa source number ≡ encoded isa (names_before isa source number) (value_in plan.names) at next line
-    made_is = bytes_here isa source plan laid number below line at next here place place_next
+    place_next : planned.next ≡ address_of isa source (number + 1)
+    place_next = ap (λ (p : LinePlan). p.next) is ∙ laid.placed (number + 1) (omega arith)
 
-    fault_is : fault_with (entry cells) at (encoded isa (names_before isa source number) (value_in plan.names) at next line)
-        ≡ fault_with (kept_before isa source number) (address_of isa source number) (bytes_of isa source number)
-    fault_is =
-        let made = encoded isa (names_before isa source number) (value_in plan.names) at next line in
-        ap (λ kept. fault_with kept at made) same_kept
-        ∙ ap (λ a. fault_with (kept_before isa source number) a made) place
-        ∙ ap (fault_with (kept_before isa source number) (address_of isa source number)) (sym made_is)
+    pub low_there : planned.at ≤ 65536
+    low_there = omega (arith, place, laid.low number (omega arith))
 
-    word_is : word ≡ word_from (parsed isa (names_before isa source number) (line_at source number))
-    word_is = sym (ap (λ l. word_from (parsed isa (names_before isa source number) l)) here ∙ ap word_from reads.is)
+    pub reads_there : Reads isa (names_before isa source number) line planned.word
+    reads_there =
+        let P : Option Word → Type 0 = λ word. Reads isa (names_before isa source number) line word in
+        let Q : List ℕ → Type 0 = λ line. Reads isa (names_before isa source number) line (word_at plan.words number) in
+        subst P (sym (ap (λ (p : LinePlan). p.word) is)) (subst Q here (laid.read number below))
 
-    pub told_there : told ≡ told_2 isa source number
-    unfolding told_2 cause_2
-    told_there =
-        let names_are : value_in plan.names ≡ all_names isa source = λ i name. laid.named name i in
-        let found = fault_with (kept_before isa source number) (address_of isa source number) (bytes_of isa source number) in
-        tells.told_is
-        ∙ ap (option_map (finding_2 isa (value_in plan.names) at word line)) fault_is
-        ∙ ap (λ names. option_map (finding_2 isa names at word line) found) names_are
-        ∙ ap (λ a. option_map (finding_2 isa (all_names isa source) a word line) found) place
-        ∙ ap (λ w. option_map (finding_2 isa (all_names isa source) (address_of isa source number) w line) found) word_is
-        ∙ ap (λ l. option_map (finding_2 isa (all_names isa source) (address_of isa source number)
-        (word_from (parsed isa (names_before isa source number) (line_at source number))) l) found) (sym here)
+    -- its bytes fit
+    pub fits_there : (bytes : List ℕ) → encoded isa (names_before isa source number) (value_in plan.names) planned.at planned.next line ≡ Ok bytes
+        → planned.at + length bytes ≤ 65536
+    fits_there bytes e =
+        let before = names_before isa source number in
+        let names = value_in plan.names in
+        let fits = bytes_fit isa source plan laid number below names bytes
+        (ap (λ at. encoded isa before names at (address_of isa source (number + 1)) (line_at source number)) (sym place)
+        ∙ ap (λ next. encoded isa before names planned.at next (line_at source number)) (sym place_next)
+        ∙ ap (encoded isa before names planned.at planned.next) here ∙ e) in
+        omega (arith, place, fits)
 
-    pub kept_more : (address : ℕ) → entry new address ≡ kept_before isa source (number + 1) address
-    unfolding kept_before
-    kept_more address =
-        let step : suc number ≡ number + 1 = omega arith in
-        let made = encoded isa (names_before isa source number) (value_in plan.names) at next line in
-        tells.put address
-        ∙ ap (λ o. option_or o (cond (is_some (fault_with (entry cells) at made)) None (cell_in (number + 1) at (result_unwrap_or made []) address))) (so_far address)
-        ∙ ap (λ f. option_or (kept_before isa source number address) (cond (is_some f) None (cell_in (number + 1) at (result_unwrap_or made []) address))) fault_is
-        ∙ ap (λ a. option_or (kept_before isa source number address)
-        (cond (is_some (fault_with (kept_before isa source number) (address_of isa source number) (bytes_of isa source number))) None
-        (cell_in (number + 1) a (result_unwrap_or made []) address))) place
-        ∙ ap (λ m. option_or (kept_before isa source number address)
-        (cond (is_some (fault_with (kept_before isa source number) (address_of isa source number) (bytes_of isa source number))) None
-        (cell_in (number + 1) (address_of isa source number) (result_unwrap_or m []) address))) (sym made_is)
-        ∙ ap (λ n. kept_before isa source n address) step
+    module _ (cells : List (Option Cell)) (so_far : (address : ℕ) → entry cells address ≡ kept_before isa source number address) (new : List (Option Cell)) (told : Option Finding) (puts : PutsLine (finding_2 isa (value_in plan.names) planned.at planned.word line) cells new (number + 1) planned.at (encoded isa (names_before isa source number) (value_in plan.names) planned.at planned.next line) told) where
+      same_kept : entry cells ≡ kept_before isa source number
+      same_kept = λ i address. so_far address i
+
+      made_is : bytes_of isa source number ≡ encoded isa (names_before isa source number) (value_in plan.names) planned.at planned.next line
+      made_is = bytes_here isa source plan laid number below line planned.at planned.next here place place_next
+
+      fault_is : fault_with (entry cells) planned.at (encoded isa (names_before isa source number) (value_in plan.names) planned.at planned.next line)
+          ≡ fault_with (kept_before isa source number) (address_of isa source number) (bytes_of isa source number)
+      fault_is =
+          let made = encoded isa (names_before isa source number) (value_in plan.names) planned.at planned.next line in
+          ap (λ kept. fault_with kept planned.at made) same_kept
+          ∙ ap (λ a. fault_with (kept_before isa source number) a made) place
+          ∙ ap (fault_with (kept_before isa source number) (address_of isa source number)) (sym made_is)
+
+      word_is : planned.word ≡ word_from (parsed isa (names_before isa source number) (line_at source number))
+      word_is = sym (ap (λ l. word_from (parsed isa (names_before isa source number) l)) here ∙ ap word_from reads_there.is)
+
+      pub told_there : told ≡ told_2 isa source number
+      unfolding told_2 cause_2
+      told_there =
+          let names_are : value_in plan.names ≡ all_names isa source = λ i name. laid.named name i in
+          let found = fault_with (kept_before isa source number) (address_of isa source number) (bytes_of isa source number) in
+          puts.told_is
+          ∙ ap (option_map (finding_2 isa (value_in plan.names) planned.at planned.word line)) fault_is
+          ∙ ap (λ names. option_map (finding_2 isa names planned.at planned.word line) found) names_are
+          ∙ ap (λ a. option_map (finding_2 isa (all_names isa source) a planned.word line) found) place
+          ∙ ap (λ w. option_map (finding_2 isa (all_names isa source) (address_of isa source number) w line) found) word_is
+          ∙ ap (λ l. option_map (finding_2 isa (all_names isa source) (address_of isa source number)
+          (word_from (parsed isa (names_before isa source number) (line_at source number))) l) found) (sym here)
+
+      pub kept_more : (address : ℕ) → entry new address ≡ kept_before isa source (number + 1) address
+      unfolding kept_before
+      kept_more address =
+          let step : suc number ≡ number + 1 = omega arith in
+          let made = encoded isa (names_before isa source number) (value_in plan.names) planned.at planned.next line in
+          puts.put address
+          ∙ ap (λ o. option_or o (cond (is_some (fault_with (entry cells) planned.at made)) None
+          (cell_in (number + 1) planned.at (result_unwrap_or made []) address))) (so_far address)
+          ∙ ap (λ f. option_or (kept_before isa source number address) (cond (is_some f) None
+          (cell_in (number + 1) planned.at (result_unwrap_or made []) address))) fault_is
+          ∙ ap (λ a. option_or (kept_before isa source number address)
+          (cond (is_some (fault_with (kept_before isa source number) (address_of isa source number) (bytes_of isa source number))) None
+          (cell_in (number + 1) a (result_unwrap_or made []) address))) place
+          ∙ ap (λ m. option_or (kept_before isa source number address)
+          (cond (is_some (fault_with (kept_before isa source number) (address_of isa source number) (bytes_of isa source number))) None
+          (cell_in (number + 1) (address_of isa source number) (result_unwrap_or m []) address))) (sym made_is)
+          ∙ ap (λ n. kept_before isa source n address) step
 
 pub kept_none : (isa : Isa) (source : List (List ℕ)) (cells : List (Option Cell)) → ((address : ℕ) → entry cells address ≡ None)
     → (address : ℕ) → entry cells address ≡ kept_before isa source 0 address
 unfolding kept_before
 kept_none isa source cells empty address = empty address
 
+pub plan_none : (isa : Isa) (source : List (List ℕ)) (names : Table) (addresses : List ℕ) (words : List (Option Word)) (values : List LabelValue)
+    → names ≡ [] → addresses ≡ origin_of isa ∷ [] → words ≡ [] → values ≡ [] → LaysOut isa source 0 (plan_with names addresses words values)
+plan_none isa source names addresses words values = lays_out_none isa source (plan_with names addresses words values)
+
 -- a line whose bytes are put, and one that overlaps
-pub tells-overlap : (finding : AsmCause → Finding) (old : List (Option Cell)) (number at : ℕ) (made : Result (List ℕ) AsmCause) (bytes : List ℕ) (told : Finding)
-    → made ≡ Ok bytes → overlaps (entry old) at (length bytes) ≡ true → told ≡ finding Overlap → Tells finding old old number at made (Some told)
-tells-overlap finding old number at made bytes told e taken is =
+pub puts-overlap : (finding : AsmCause → Finding) (old : List (Option Cell)) (number at : ℕ) (made : Result (List ℕ) AsmCause) (bytes : List ℕ) (told : Finding)
+    → made ≡ Ok bytes → overlaps (entry old) at (length bytes) ≡ true → told ≡ finding Overlap → PutsLine finding old old number at made (Some told)
+puts-overlap finding old number at made bytes told e taken is =
     let fault : fault_with (entry old) at made ≡ Some Overlap =
     ap (fault_with (entry old) at) e ∙ cond-true (overlaps (entry old) at (length bytes)) (Some Overlap) None taken in
     record {
@@ -148,10 +226,10 @@ tells-overlap finding old number at made bytes told e taken is =
           ∙ second_none (entry old address));
     }
 
-pub tells-put : (finding : AsmCause → Finding) (old new : List (Option Cell)) (number at : ℕ) (made : Result (List ℕ) AsmCause) (bytes : List ℕ)
+pub puts-bytes : (finding : AsmCause → Finding) (old new : List (Option Cell)) (number at : ℕ) (made : Result (List ℕ) AsmCause) (bytes : List ℕ)
     → made ≡ Ok bytes → overlaps (entry old) at (length bytes) ≡ false
-    → ((address : ℕ) → entry new address ≡ option_or (entry old address) (cell_in number at bytes address)) → Tells finding old new number at made None
-tells-put finding old new number at made bytes e free put =
+    → ((address : ℕ) → entry new address ≡ option_or (entry old address) (cell_in number at bytes address)) → PutsLine finding old new number at made None
+puts-bytes finding old new number at made bytes e free put =
     let fault : fault_with (entry old) at made ≡ None =
     ap (fault_with (entry old) at) e ∙ cond-false (overlaps (entry old) at (length bytes)) (Some Overlap) None free in
     record {
@@ -166,21 +244,23 @@ placed true taken m free = m.1
 placed false taken m free = absurd (both_ways taken free m)
 
 -- a line that counts as it was learnt
-pub guesses-learnt : (isa : Isa) (old : Table) (at : ℕ) (line : List ℕ) (new : Table) (next : ℕ) → Learnt isa old at line new next → Guesses isa old at line new next
-guesses-learnt isa old at line new next learnt = record {
-  next_is = learnt.next_is ∙ sym (ap (λ r. (guessed_from isa (known old at) line r).at) learnt.is);
-  names = λ name. learnt.names name ∙ sym (ap (λ r. (guessed_from isa (known old at) line r).names name) learnt.is);
-  low = learnt.low;
+pub guesses-learnt : (isa : Isa) (old : Table) (at : ℕ) (line : List ℕ) (new : Table) (word : Option Word) (laid : Laid) → AddsLine isa old at line new word laid
+    → Guesses isa old at line new laid.next
+guesses-learnt isa old at line new word laid adds = record {
+  next_is = sym (ap (λ r. (guessed_from isa (known old at) line r).at) adds.is);
+  names = λ name. adds.names name ∙ sym (ap (λ r. (guessed_from isa (known old at) line r).names name) adds.is);
+  low = adds.low;
 }
 
-pub looks-learnt : (isa : Isa) (old : Table) (at : ℕ) (faulty : Bool) (line : List ℕ) (new : Table) (next : ℕ) → Learnt isa old at line new next
-    → Looks isa old at faulty line new (record { next = next; faulty = faulty; finding = None })
-looks-learnt isa old at faulty line new next learnt =
+pub looks-learnt : (isa : Isa) (old : Table) (at : ℕ) (faulty : Bool) (line : List ℕ) (new : Table) (word : Option Word) (laid : Laid)
+    → AddsLine isa old at line new word laid → Looks isa old at faulty line new (record { word = word; laid = laid; faulty = faulty; finding = None })
+looks-learnt isa old at faulty line new word laid adds =
     let before : Seen = seen old at faulty in
     record {
-      next_is = learnt.next_is ∙ sym (ap (λ r. (seen_after isa before line r).known.at) learnt.is);
-      names = λ name. learnt.names name ∙ sym (ap (λ r. (seen_after isa before line r).known.names name) learnt.is);
-      faulty_is = sym (ap (λ r. (seen_after isa before line r).faulty) learnt.is);
-      told = sym (ap (finding_from isa (value_in old) faulty line) learnt.is);
-      low = learnt.low;
+      next_is = sym (ap (λ r. (seen_after isa before line r).known.at) adds.is);
+      names = λ name. adds.names name ∙ sym (ap (λ r. (seen_after isa before line r).known.names name) adds.is);
+      faulty_is = sym (ap (λ r. (seen_after isa before line r).faulty) adds.is);
+      told = sym (ap (finding_from isa (value_in old) faulty line) adds.is);
+      low = adds.low;
+      clean = λ e. (e, adds);
     }

@@ -1,13 +1,12 @@
 -- What the passes have found of the lines before a line.
-use Rattle.std.specs.Prelude.{◌≡◌, ◌+◌, ◌<◌, ◌≤◌, ℕ, false, List, length, slice_index, slice_index_or, Option, None, Some, Result, Err}
+use Rattle.std.specs.Prelude.{◌≡◌, ◌+◌, ◌<◌, ◌≤◌, ℕ, List, length, slice_index, slice_index_or, Option, None, Some, Ok}
+use Rattle.asm_core.specs.declared.findings.Finding.{Finding}
+use Rattle.asm_core.specs.declared.findings.LinePlan.{LinePlan}
 use Rattle.asm_core.specs.declared.layout.Laid.{Laid}
 use Rattle.asm_core.specs.declared.passes.Plan.{Plan}
 use Rattle.asm_core.specs.declared.table.Cell.{Cell}
-use Rattle.std.specs.Option.{option_or}
-use Rattle.std.specs.Prelude.{Ok}
-use Rattle.asm_core.specs.declared.fault.AsmCause.{AsmCause}
 use Rattle.asm_core.specs.declared.fault.AsmFault.{AsmFault}
-use Rattle.asm_core.specs.declared.fault.AsmFault.TheVariants.{Fault, NoMemory}
+use Rattle.asm_core.specs.declared.fault.AsmFault.TheVariants.{Fault}
 use Rattle.asm_lex.specs.declared.shape.Isa.{Isa}
 use Rattle.asm_lex.specs.declared.shape.SymbolValue.{SymbolValue}
 use Rattle.asm_lex.specs.declared.shape.Word.{Word}
@@ -17,17 +16,8 @@ use Rattle.asm_core.specs.declared.layout.LabelValue.{LabelValue}
 use Rattle.asm_core.specs.declared.layout.LabelValue.TheVariants.{Address}
 use Rattle.asm_core.specs.Names.{with_label}
 use Rattle.asm_core.specs.Layout.{laid_out, label_in, symbol_value}
-use Rattle.asm_core.specs.Sources.{NoFault, IsFirstFault, fault_1, fault_2, line_at, names_before, address_of, label_value, overlaps, cell_in, cell_before}
-
--- a fault has the cause of a line with this number
-abbrev pub IsFaultOf : {X : Type 0} → Result X AsmCause → ℕ → AsmFault → Type 0
-IsFaultOf found number (Fault line cause) = (line ≡ number) × (found ≡ Err cause)
-IsFaultOf found number NoMemory = Unit {0}
-
--- a fault is the first one of a pass, or want of memory
-abbrev pub IsFirstIn : (ℕ → Option AsmCause) → ℕ → AsmFault → Type 0
-IsFirstIn fault count (Fault line cause) = (i : ℕ) × (line ≡ i + 1) × IsFirstFault fault count i cause
-IsFirstIn fault count NoMemory = Unit {0}
+use Rattle.asm_core.specs.Made.{IsAssembly}
+use Rattle.asm_core.specs.Sources.{NoFault, fault_1, line_at, names_before, address_of, label_value}
 
 -- a line in pass 1 leads from the names before it to those behind it, and to the next address
 pub record AddsLine (isa : Isa) (old : List (List ℕ × SymbolValue)) (at : ℕ) (line : List ℕ) (new : List (List ℕ × SymbolValue))
@@ -66,19 +56,26 @@ pub record LaysOut (isa : Isa) (source : List (List ℕ)) (count : ℕ) (plan : 
   pub values_count : length plan.values ≡ count
   pub valued : (i : ℕ) → i < count → slice_index_or plan.values i (Address 0) ≡ label_value isa source i
 
--- a fault is the cause that was found in a line with this number
-abbrev pub IsCauseOf : Option AsmCause → ℕ → AsmFault → Type 0
-IsCauseOf found number (Fault line cause) = (line ≡ number) × (found ≡ Some cause)
-IsCauseOf found number NoMemory = Unit {0}
+-- where pass 1 placed a line
+abbrev pub line_plan : Planned → ℕ → LinePlan
+line_plan plan i = record { at = slice_index plan.addresses i; next = slice_index plan.addresses (i + 1); word = word_at plan.words i }
 
--- the bytes that were made of a line are put at addresses that had none
-pub record PutsLine (old new : List (Option Cell)) (number at : ℕ) (made : Result (List ℕ) AsmCause) : Type 0 where
-  pub bytes : List ℕ
-  pub is : made ≡ Ok bytes
-  pub free : overlaps (λ address. slice_index_or old address None) at (length bytes) ≡ false
-  pub put : (address : ℕ) → slice_index_or new address None ≡ option_or (slice_index_or old address None) (cell_in number at bytes address)
+-- what both passes found of a source without a fault
+pub record IsFound (isa : Isa) (source : List (List ℕ)) (plan : Planned) (cells : List (Option Cell)) : Type 0 where
+  pub cells_count : length cells ≡ 65536
+  pub lines_count : length plan.addresses ≡ length plan.values + 1
+  pub is : IsAssembly isa source (record { cells = cells; names = plan.names; addresses = plan.addresses; values = plan.values })
 
--- pass 2 over the first lines found no fault, and put their bytes
-pub record HasBytes (isa : Isa) (source : List (List ℕ)) (count : ℕ) (cells : List (Option Cell)) : Type 0 where
-  pub faultless : NoFault (fault_2 isa source) count
-  pub bytes : (address : ℕ) → slice_index_or cells address None ≡ cell_before isa source count address
+-- nothing is found in any line
+abbrev pub NoneIn : List (Option Finding) → Type 0
+NoneIn found = (i : ℕ) → i < length found → slice_index_or found i None ≡ None
+
+-- line i is the first with a finding, which is this one
+pub record IsFirstFinding (found : List (Option Finding)) (i : ℕ) (finding : Finding) : Type 0 where
+  pub inside : i < length found
+  pub here : slice_index_or found i None ≡ Some finding
+  pub earlier : (k : ℕ) → k < i → slice_index_or found k None ≡ None
+
+-- a fault is that finding's
+abbrev pub IsFirstOfFindings : List (Option Finding) → AsmFault → Type 0
+IsFirstOfFindings found fault = (i : ℕ) × (finding : Finding) × (IsFirstFinding found i finding × (fault ≡ Fault (i + 1) finding.cause))

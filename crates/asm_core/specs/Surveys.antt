@@ -1,17 +1,18 @@
 -- What is found of the lines before a line while every fault of a source is looked for.
-use Rattle.std.specs.Prelude.{◌≡◌, ◌≤◌, ℕ, Bool, List, [], slice_index_or, if◌then◌else◌, Option, None, is_some, option_map, Result, Ok, Err}
+use Rattle.std.specs.Prelude.{◌≡◌, ◌≤◌, ℕ, Bool, false, List, [], slice_index_or, if◌then◌else◌, Option, None, is_some, option_map, Result, Ok, Err}
 use Rattle.std.specs.Option.{option_or}
 use Rattle.std.specs.Result.{result_unwrap_or}
 use Rattle.asm_lex.specs.declared.shape.Isa.{Isa}
 use Rattle.asm_lex.specs.declared.shape.SymbolValue.{SymbolValue}
+use Rattle.asm_lex.specs.declared.shape.Word.{Word}
 use Rattle.asm_lex.specs.Names.{value_in}
 use Rattle.asm_core.specs.declared.findings.Finding.{Finding}
 use Rattle.asm_core.specs.declared.findings.Looked.{Looked}
 use Rattle.asm_core.specs.declared.fault.AsmCause.{AsmCause}
 use Rattle.asm_core.specs.declared.layout.Laid.{Laid}
 use Rattle.asm_core.specs.declared.table.Cell.{Cell}
-use Rattle.asm_core.specs.Layout.{laid_out, label_in, symbol_value}
-use Rattle.asm_core.specs.Names.{with_label}
+use Rattle.asm_core.specs.Layout.{laid_out}
+use Rattle.asm_core.specs.Passes.{AddsLine}
 use Rattle.asm_core.specs.Sources.{Known, cell_in, fault_with}
 use Rattle.asm_core.specs.Told.{Seen, guessed, seen_next, finding_1}
 
@@ -19,17 +20,9 @@ use Rattle.asm_core.specs.Told.{Seen, guessed, seen_next, finding_1}
 abbrev pub Table : Type 0
 Table = List (List ℕ × SymbolValue)
 
--- a line without a fault in pass 1 leads from the names before it to those behind it, and to the next address
-pub record Learnt (isa : Isa) (old : Table) (at : ℕ) (line : List ℕ) (new : Table) (next : ℕ) : Type 0 where
-  pub laid : Laid
-  pub is : laid_out isa (value_in old) at line ≡ Ok laid
-  pub next_is : next ≡ laid.next
-  pub names : (name : List ℕ) → value_in new name ≡ with_label (value_in old) (label_in isa (value_in old) line) (symbol_value laid.value) name
-  pub low : next ≤ 65536
-
--- a faulty one changes no names
-abbrev pub Learns : Isa → Table → ℕ → List ℕ → Table → Result ℕ AsmCause → Type 0
-Learns isa old at line new (Ok next) = Learnt isa old at line new next
+-- a line in pass 1 leads on, and a faulty one changes no names
+abbrev pub Learns : Isa → Table → ℕ → List ℕ → Table → Result (Option Word × Laid) AsmCause → Type 0
+Learns isa old at line new (Ok found) = AddsLine isa old at line new found.0 found.1
 Learns isa old at line new (Err cause) = (laid_out isa (value_in old) at line ≡ Err cause) × (new ≡ old)
 
 abbrev pub known : Table → ℕ → Known
@@ -44,16 +37,17 @@ pub record Guesses (isa : Isa) (old : Table) (at : ℕ) (line : List ℕ) (new :
   pub names : (name : List ℕ) → value_in new name ≡ (guessed isa (known old at) line).names name
   pub low : next ≤ 65536
 
--- what a line leaves, and what is told of it
+-- what a line leaves, what is told of it, and, where it and the lines before it have no fault, where it stands
 pub record Looks (isa : Isa) (old : Table) (at : ℕ) (faulty : Bool) (line : List ℕ) (new : Table) (looked : Looked) : Type 0 where
-  pub next_is : looked.next ≡ (seen_next isa (seen old at faulty) line).known.at
+  pub next_is : looked.laid.next ≡ (seen_next isa (seen old at faulty) line).known.at
   pub names : (name : List ℕ) → value_in new name ≡ (seen_next isa (seen old at faulty) line).known.names name
   pub faulty_is : looked.faulty ≡ (seen_next isa (seen old at faulty) line).faulty
   pub told : looked.finding ≡ finding_1 isa (seen old at faulty) line
-  pub low : looked.next ≤ 65536
+  pub low : looked.laid.next ≤ 65536
+  pub clean : looked.faulty ≡ false → (faulty ≡ false) × AddsLine isa old at line new looked.word looked.laid
 
 -- in pass 2 the bytes of a line without a fault are put, and a faulty one is told
-pub record Tells (finding : AsmCause → Finding) (old new : List (Option Cell)) (number at : ℕ) (made : Result (List ℕ) AsmCause) (told : Option Finding)
+pub record PutsLine (finding : AsmCause → Finding) (old new : List (Option Cell)) (number at : ℕ) (made : Result (List ℕ) AsmCause) (told : Option Finding)
     : Type 0 where
   pub told_is : told ≡ option_map finding (fault_with (λ address. slice_index_or old address None) at made)
   pub put : (address : ℕ) → slice_index_or new address None

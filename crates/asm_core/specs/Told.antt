@@ -48,8 +48,8 @@ abbrev pub guessed : Isa → Known → List ℕ → Known
 guessed isa known line = guessed_from isa known line (laid_out isa known.names known.at line)
 
 -- behind a label without its colon the rest is looked at as though it stood there
-unfoldable pub mended : Isa → List ℕ → List ℕ
-mended isa line = option_map_or (λ place. take place line ++ 58 ∷ drop place line) (missing_colon isa line) line
+unfoldable pub with_colon : Isa → List ℕ → List ℕ
+with_colon isa line = option_map_or (λ place. take place line ++ 58 ∷ drop place line) (missing_colon isa line) line
 
 -- what stands before a line, and whether a line before it is faulty
 pub record Seen : Type 0 where
@@ -61,7 +61,7 @@ seen_first isa = record { known = known_first isa; faulty = false }
 
 abbrev pub seen_after : Isa → Seen → List ℕ → Result Laid AsmCause → Seen
 seen_after isa seen line (Ok laid) = record { known = known_after seen.known (label_in isa seen.known.names line) (Ok laid); faulty = seen.faulty }
-seen_after isa seen line (Err cause) = record { known = guessed isa seen.known (mended isa line); faulty = true }
+seen_after isa seen line (Err cause) = record { known = guessed isa seen.known (with_colon isa line); faulty = true }
 
 abbrev pub laid_by : Isa → Seen → List ℕ → Result Laid AsmCause
 laid_by isa seen line = laid_out isa seen.known.names seen.known.at line
@@ -147,6 +147,9 @@ AreTold isa source findings = IsEachOf (told isa source) (length source) finding
 abbrev pub AreNoted : Isa → List (List ℕ) → List (Option Place) → Type 0
 AreNoted isa source notes = IsEachOf (note_at isa source) (length source) notes
 
+abbrev pub NothingTold : Isa → List (List ℕ) → Type 0
+NothingTold isa source = (i : ℕ) → i < length source → told isa source i ≡ None
+
 -- line i is the first of which a fault is told
 pub record IsFirstTold (isa : Isa) (source : List (List ℕ)) (i : ℕ) (finding : Finding) : Type 0 where
   pub inside : i < length source
@@ -155,7 +158,6 @@ pub record IsFirstTold (isa : Isa) (source : List (List ℕ)) (i : ℕ) (finding
 
 -- No fault is told exactly where the source is assembled, and the first one told has the line and the cause of the source's first fault.
 pub record AgreesWithFaults (isa : Isa) (source : List (List ℕ)) : Type 0 where
-  pub none : ((i : ℕ) → i < length source → told isa source i ≡ None) → NoFault (fault_1 isa source) (length source) × NoFault (fault_2 isa source) (length source)
-  pub told_none : NoFault (fault_1 isa source) (length source) → NoFault (fault_2 isa source) (length source)
-      → (i : ℕ) → i < length source → told isa source i ≡ None
+  pub none : NothingTold isa source → NoFault (fault_1 isa source) (length source) × NoFault (fault_2 isa source) (length source)
+  pub told_none : NoFault (fault_1 isa source) (length source) → NoFault (fault_2 isa source) (length source) → NothingTold isa source
   pub first : (i : ℕ) (finding : Finding) → IsFirstTold isa source i finding → HasFirstFault isa source (i + 1) finding.cause

@@ -1,22 +1,23 @@
 //! Every fault of a source, each faulty line told once, by its first cause.
 
-ghost use Rattle.std.specs.Prelude.{◌≡◌, ◌≤◌, ◌+◌, ℕ, List, length, option_map, Some, IfOk, IfErr, Ok};
+ghost use Rattle.std.specs.Prelude.{◌≡◌, ◌≤◌, ◌<◌, ◌+◌, ◌++◌, ◌∷◌, [], ℕ, List, length, option_map, slice_index_or, true, false, None, Some, IfOk, OnOk, IfErr, Ok};
 ghost use Rattle.asm_lex.specs.Lines.{operands_of, Reads};
 ghost use Rattle.asm_lex.specs.Names.{Names, value_in};
+ghost use Rattle.asm_lex.specs.Notes.{note_in};
 ghost use Rattle.asm_lex.specs.Parts.{code_of};
 ghost use Rattle.asm_lex.specs.Words.{HasItsOperands};
 ghost use Rattle.asm_core.specs.Encoding.{encoded};
 ghost use Rattle.asm_core.specs.Limits.{most_bytes};
-ghost use Rattle.asm_core.specs.Passes.{LaysOut, planned};
+ghost use Rattle.asm_core.specs.Passes.{LaysOut, IsFound, line_plan, planned};
 ghost use Rattle.asm_core.specs.Sources.{source_lines};
-ghost use Rattle.asm_core.specs.Told.{label_if_name, guessed_label, mended, is_sure, sure_finding, finding_2, told_1, told_2, note_at, IsEachOf, AreTold, AreNoted, AgreesWithFaults};
-ghost use Rattle.asm_core.specs.Surveys.{Learns, Guesses, Looks, Tells};
+ghost use Rattle.asm_core.specs.Told.{label_if_name, guessed_label, with_colon, is_sure, sure_finding, finding_2, seen_at, kept_before, told_1, told_2, IsEachOf, AreTold, AreNoted, NothingTold, AgreesWithFaults};
+ghost use Rattle.asm_core.specs.Surveys.{Learns, Guesses, Looks, PutsLine};
 
 use crate::culprit::{culprit_1, culprit_2, large_number};
 use crate::encode::{Bytes, byte_count, encode_line};
 use crate::fault::{AsmCause, AsmFault};
-use crate::layout::{lay_out, origin_of, symbol_value};
-use crate::passes::{Plan, pass_1};
+use crate::layout::{LabelValue, Laid, lay_out, origin_of, symbol_value};
+use crate::passes::Plan;
 use crate::source::next_line;
 use crate::table::{Cell, empty_table, overlaps, place};
 use asm_lex::{
@@ -42,14 +43,14 @@ pub struct Told {
     pub notes: Vec<Option<Place>>,
 }
 
-// A line in pass 1, whose label is added to the names: the address behind it, or its first cause.
+// A line in pass 1, whose label is added to the names: its word and where it stands, or its first cause.
 fn learn(
     alloc: Global,
     isa: Isa,
     names: &mut Symbols,
     at: u32,
     line: &[u8],
-) -> Result<Result<u32, AsmCause>, AllocError>
+) -> Result<Result<(Option<Word>, Laid), AsmCause>, AllocError>
     requires { at ≤ 65536 }
     ensures { IfOk result (λ learnt. Learns isa names.old at line.now names.new learnt) }
 {
@@ -61,7 +62,7 @@ fn learn(
         let value = symbol_value(placed.laid.value);
         names.define(alloc, text_at(line, label), value)?;
     }
-    Ok(Ok(placed.laid.next))
+    Ok(Ok((placed.word, placed.laid)))
 }
 
 fn if_name(isa: Isa, label: &[u8]) -> Option<&[u8]>
@@ -86,16 +87,16 @@ fn guessed_label(isa: Isa, line: &[u8]) -> Option<&[u8]>
 }
 
 // A line with the colon that is missing in it.
-#[tactic(auto, unfolding(crate::specs::Told::mended))]
-fn mended(alloc: Global, isa: Isa, line: &[u8]) -> Result<Vec<u8>, AllocError>
-    ensures { IfOk result (λ text. text.items ≡ mended isa line.now) }
+#[tactic(auto, unfolding(crate::specs::Told::with_colon))]
+fn with_colon(alloc: Global, isa: Isa, line: &[u8]) -> Result<Vec<u8>, AllocError>
+    ensures { IfOk result (λ text. text.items ≡ with_colon isa line.now) }
 {
     match missing_colon(isa, line) {
         Some(place) => {
-            let mut mended = Vec::from_slice(alloc, &line[..place])?;
-            mended.push(b':')?;
-            mended.extend_from_slice(&line[place..])?;
-            Ok(mended)
+            let mut text = Vec::from_slice(alloc, &line[..place])?;
+            text.push(b':')?;
+            text.extend_from_slice(&line[place..])?;
+            Ok(text)
         }
         None => Vec::from_slice(alloc, line),
     }
@@ -112,8 +113,8 @@ fn guess(
     requires { at ≤ 65536 }
     ensures { IfOk result (λ next. Guesses isa names.old at line.now names.new next) }
 {
-    if let Ok(next) = learn(alloc, isa, names, at, line)? {
-        return Ok(next);
+    if let Ok((_, laid)) = learn(alloc, isa, names, at, line)? {
+        return Ok(laid.next);
     }
     if let Some(label) = guessed_label(isa, line) {
         if names.get(label).is_none() {
@@ -151,10 +152,11 @@ fn sure_finding(
     Some(Finding { cause, place })
 }
 
-// What pass 1 says of a line: the address behind it, whether it or a line before it is faulty, and what is told.
+// What pass 1 says of a line: its word, where it stands, whether it or a line before it is faulty, and what is told.
 #[derive(Clone, Copy)]
 struct Looked {
-    next: u32,
+    word: Option<Word>,
+    laid: Laid,
     faulty: bool,
     finding: Option<Finding>,
 }
@@ -171,17 +173,22 @@ fn look_at(
     ensures { IfOk result (λ looked. Looks isa names.old at faulty line.now names.new looked) }
 {
     match learn(alloc, isa, names, at, line)? {
-        Ok(next) => Ok(Looked {
-            next,
+        Ok((word, laid)) => Ok(Looked {
+            word,
+            laid,
             faulty,
             finding: None,
         }),
         Err(cause) => {
             let finding = sure_finding(isa, names, faulty, line, cause);
-            let mended = mended(alloc, isa, line)?;
-            let next = guess(alloc, isa, names, at, mended.as_slice())?;
+            let text = with_colon(alloc, isa, line)?;
+            let next = guess(alloc, isa, names, at, text.as_slice())?;
             Ok(Looked {
-                next,
+                word: None,
+                laid: Laid {
+                    value: LabelValue::Address(at),
+                    next,
+                },
                 faulty: true,
                 finding,
             })
@@ -189,26 +196,70 @@ fn look_at(
     }
 }
 
-// What is told of each line of a source by pass 1, which alone tells notes.
-fn survey_1(alloc: Global, isa: Isa, text: &[u8]) -> Result<Told, AllocError>
-    ensures told { IfOk result (λ told. IsEachOf (told_1 isa (source_lines text.now)) (length (source_lines text.now)) told.findings.items) }
-    ensures noted { IfOk result (λ told. AreNoted isa (source_lines text.now) told.notes.items) }
+// Adds the note of a line, where notes are wanted.
+fn add_note(
+    notes: &mut Vec<Option<Place>>,
+    wanted: bool,
+    isa: Isa,
+    names: &Symbols,
+    line: &[u8],
+) -> Result<(), AllocError>
+    ensures { OnOk result (wanted ≡ true → notes.new.items ≡ notes.old.items ++ note_in isa (value_in names.now) line.now ∷ []) }
+{
+    if wanted {
+        notes.push(note_in(isa, names, line))?;
+    }
+    Ok(())
+}
+
+// What pass 1 finds: what is told of each line, whether a line is faulty, and, where none is, where the lines stand.
+#[derive(Drop)]
+struct First {
+    told: Told,
+    faulty: bool,
+    plan: Plan,
+}
+
+// Pass 1 over the lines of a source. It alone tells notes, where they are wanted.
+fn pass_1(alloc: Global, isa: Isa, text: &[u8], with_notes: bool) -> Result<First, AllocError>
+    ensures few { IfOk result (λ first. length first.told.findings.items ≤ length text.now) }
+    ensures told { IfOk result (λ first. IsEachOf (told_1 isa (source_lines text.now)) (length (source_lines text.now)) first.told.findings.items) }
+    ensures noted { IfOk result (λ first. with_notes ≡ true → AreNoted isa (source_lines text.now) first.told.notes.items) }
+    ensures faulty { IfOk result (λ first. first.faulty ≡ (seen_at isa (source_lines text.now) (length (source_lines text.now))).faulty) }
+    ensures plan { IfOk result (λ first. first.faulty ≡ false →
+        LaysOut isa (source_lines text.now) (length (source_lines text.now)) (planned first.plan)) }
 {
     let mut names = Symbols::new(alloc);
+    let mut addresses = Vec::new(alloc);
+    let mut words = Vec::new(alloc);
+    let mut values = Vec::new(alloc);
     let mut findings = Vec::new(alloc);
     let mut notes = Vec::new(alloc);
     let mut at = origin_of(isa);
     let mut faulty = false;
     let mut rest = text;
+    addresses.push(at)?;
     while let Some((line, more)) = next_line(rest) {
-        notes.push(note_in(isa, &names, line))?;
+        add_note(&mut notes, with_notes, isa, &names, line)?;
         let looked = look_at(alloc, isa, &mut names, at, faulty, line)?;
+        addresses.push(looked.laid.next)?;
+        words.push(looked.word)?;
+        values.push(looked.laid.value)?;
         findings.push(looked.finding)?;
-        at = looked.next;
+        at = looked.laid.next;
         faulty = looked.faulty;
         rest = more;
     }
-    Ok(Told { findings, notes })
+    Ok(First {
+        told: Told { findings, notes },
+        faulty,
+        plan: Plan {
+            names,
+            addresses,
+            words,
+            values,
+        },
+    })
 }
 
 fn finding_2(
@@ -229,71 +280,121 @@ fn finding_2(
     Finding { cause, place }
 }
 
-// One line in pass 2, which stands from the address `at` up to `next` and has this word. A faulty line gives no bytes.
-fn put_told(
+// Where pass 1 placed a line: the address at which it begins, the one behind it, and its word.
+#[derive(Clone, Copy)]
+struct LinePlan {
+    at: u32,
+    next: u32,
+    word: Option<Word>,
+}
+
+fn line_plan(plan: &Plan, index: usize) -> LinePlan
+    requires addresses { index + 1 < length plan.now.addresses.items }
+    requires words { index < length plan.now.words.items }
+    ensures { result ≡ line_plan (planned plan.now) index }
+{
+    LinePlan {
+        at: plan.addresses[index],
+        next: plan.addresses[index + 1],
+        word: plan.words[index],
+    }
+}
+
+// One line in pass 2. A faulty line gives no bytes.
+fn put_line(
     isa: Isa,
     names: &Symbols,
     cells: &mut Vec<Option<Cell>>,
     number: u32,
-    at: u32,
-    next: u32,
-    word: Option<Word>,
+    plan: LinePlan,
     line: &[u8],
 ) -> Option<Finding>
-    requires at { at ≤ 65536 }
+    requires at { plan.at ≤ 65536 }
     requires cells { length cells.old.items ≡ 65536 }
-    requires line { (earlier : Names) × Reads isa earlier line.now word
-        × ((bytes : List ℕ) → encoded isa earlier (value_in names.now) at next line.now ≡ Ok bytes → at + length bytes ≤ 65536) }
+    requires line { (earlier : Names) × Reads isa earlier line.now plan.word
+        × ((bytes : List ℕ) → encoded isa earlier (value_in names.now) plan.at plan.next line.now ≡ Ok bytes → plan.at + length bytes ≤ 65536) }
     ensures count { length cells.new.items ≡ length cells.old.items }
-    ensures told { (earlier : Names) → Reads isa earlier line.now word →
-        Tells (finding_2 isa (value_in names.now) at word line.now) cells.old.items cells.new.items number at
-        (encoded isa earlier (value_in names.now) at next line.now) result }
+    ensures told { (earlier : Names) → Reads isa earlier line.now plan.word →
+        PutsLine (finding_2 isa (value_in names.now) plan.at plan.word line.now) cells.old.items cells.new.items number plan.at
+        (encoded isa earlier (value_in names.now) plan.at plan.next line.now) result }
 {
-    let bytes = match encode_line(isa, names, at, next, word, line) {
+    let bytes = match encode_line(isa, names, plan.at, plan.next, plan.word, line) {
         Ok(bytes) => bytes,
-        Err(cause) => return Some(finding_2(isa, names, at, word, line, cause)),
+        Err(cause) => return Some(finding_2(isa, names, plan.at, plan.word, line, cause)),
     };
-    if overlaps(cells.as_slice(), at, byte_count(&bytes)) {
-        return Some(finding_2(isa, names, at, word, line, AsmCause::Overlap));
+    if overlaps(cells.as_slice(), plan.at, byte_count(&bytes)) {
+        let cause = AsmCause::Overlap;
+        return Some(finding_2(isa, names, plan.at, plan.word, line, cause));
     }
-    place(cells, number, at, &bytes);
+    place(cells, number, plan.at, &bytes);
     None
 }
 
-// What is told of each line of a source that has no fault in pass 1.
-fn survey_2(
-    alloc: Global,
-    isa: Isa,
-    text: &[u8],
-    plan: &Plan,
-) -> Result<Vec<Option<Finding>>, AllocError>
+// What pass 2 finds: the bytes of the lines without a fault, and what is told of each line.
+#[derive(Drop)]
+struct Second {
+    cells: Vec<Option<Cell>>,
+    findings: Vec<Option<Finding>>,
+}
+
+// Pass 2 over the lines of a source that has no fault in pass 1.
+fn pass_2(alloc: Global, isa: Isa, text: &[u8], plan: &Plan) -> Result<Second, AllocError>
     requires text { length text.now ≤ most_bytes }
     requires plan { LaysOut isa (source_lines text.now) (length (source_lines text.now)) (planned plan.now) }
-    ensures { IfOk result (λ found. IsEachOf (told_2 isa (source_lines text.now)) (length (source_lines text.now)) found.items) }
+    ensures count { IfOk result (λ second. length second.cells.items ≡ 65536) }
+    ensures bytes { IfOk result (λ second. (address : ℕ) →
+        slice_index_or second.cells.items address None ≡ kept_before isa (source_lines text.now) (length (source_lines text.now)) address) }
+    ensures told { IfOk result (λ second. IsEachOf (told_2 isa (source_lines text.now)) (length (source_lines text.now)) second.findings.items) }
 {
     let mut cells = empty_table(alloc)?;
-    let mut found = Vec::new(alloc);
+    let mut findings = Vec::new(alloc);
     let mut number: u32 = 0;
     let mut rest = text;
     while let Some((line, more)) = next_line(rest) {
-        let at = plan.addresses[number as usize];
-        let next = plan.addresses[number as usize + 1];
-        let word = plan.words[number as usize];
-        let finding = put_told(
-            isa,
-            &plan.names,
-            &mut cells,
-            number + 1,
-            at,
-            next,
-            word,
-            line,
-        );
-        found.push(finding)?;
+        let here = line_plan(plan, number as usize);
+        let finding = put_line(isa, &plan.names, &mut cells, number + 1, here, line);
+        findings.push(finding)?;
         number += 1;
         rest = more;
     }
-    Ok(found)
+    Ok(Second { cells, findings })
+}
+
+/// What both passes find: what is told of each line, and, where nothing is told, where the lines stand and their bytes.
+#[derive(Drop)]
+pub(crate) struct Found {
+    pub told: Told,
+    pub plan: Plan,
+    pub cells: Vec<Option<Cell>>,
+}
+
+/// Both passes over the lines of a source.
+pub(crate) fn run_passes(
+    alloc: Global,
+    isa: Isa,
+    text: &[u8],
+    with_notes: bool,
+) -> Result<Found, AllocError>
+    requires { length text.now ≤ most_bytes }
+    ensures few { IfOk result (λ found. length found.told.findings.items ≤ most_bytes) }
+    ensures told { IfOk result (λ found. AreTold isa (source_lines text.now) found.told.findings.items) }
+    ensures noted { IfOk result (λ found. with_notes ≡ true → AreNoted isa (source_lines text.now) found.told.notes.items) }
+    ensures made { IfOk result (λ found. NothingTold isa (source_lines text.now) →
+        IsFound isa (source_lines text.now) (planned found.plan) found.cells.items) }
+{
+    let first = pass_1(alloc, isa, text, with_notes)?;
+    let First { told, faulty, plan } = first;
+    if faulty {
+        let cells = Vec::new(alloc);
+        return Ok(Found { told, plan, cells });
+    }
+    let Second { cells, findings } = pass_2(alloc, isa, text, &plan)?;
+    let notes = told.notes;
+    Ok(Found {
+        told: Told { findings, notes },
+        plan,
+        cells,
+    })
 }
 
 /// What is told of each line of a source of an instruction set of at most `MOST_BYTES` bytes: its first fault, or nothing, and an instruction in its
@@ -305,19 +406,8 @@ pub fn check(alloc: Global, isa: Isa, text: &[u8]) -> Result<Told, AsmFault>
     ensures agrees { AgreesWithFaults isa (source_lines text.now) }
     ensures memory { IfErr result (λ fault. fault ≡ AsmFault.NoMemory) }
 {
-    let Ok(mut told) = survey_1(alloc, isa, text) else {
-        return Err(AsmFault::NoMemory);
-    };
-    let plan = match pass_1(alloc, isa, text) {
-        Ok(plan) => plan,
-        Err(AsmFault::NoMemory) => return Err(AsmFault::NoMemory),
-        Err(AsmFault::Fault { line: _, cause: _ }) => return Ok(told),
-    };
-    match survey_2(alloc, isa, text, &plan) {
-        Ok(findings) => {
-            told.findings = findings;
-            Ok(told)
-        }
+    match run_passes(alloc, isa, text, true) {
+        Ok(found) => Ok(found.told),
         Err(_) => Err(AsmFault::NoMemory),
     }
 }

@@ -154,7 +154,7 @@ impl<'a> Iterator for LinesAt<'a> {
 }
 
 // The line that shows a label.
-fn shown(alloc: Global, name: &[u8]) -> Result<Vec<u8>, AllocError>
+fn show_name(alloc: Global, name: &[u8]) -> Result<Vec<u8>, AllocError>
     ensures { IfOk result (λ line. line.items ≡ label_line name.now) }
 {
     let mut line = Vec::from_slice(alloc, name)?;
@@ -172,7 +172,7 @@ fn mark(alloc: Global, line: &[u8], value: LabelValue) -> Result<Option<Label>, 
     };
     match value {
         LabelValue::Address(address) => {
-            let line = shown(alloc, name)?;
+            let line = show_name(alloc, name)?;
             Ok(Some(Label { address, line }))
         }
         LabelValue::Given(_) => Ok(None),

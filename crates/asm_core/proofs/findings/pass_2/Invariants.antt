@@ -2,7 +2,7 @@ use Rattle.std.proofs.Common.{◌≡◌, ◌≤◌, ◌+◌, ℕ, length, drop}
 use Rattle.asm_core.specs.Sources.{source_lines}
 use Rattle.asm_core.specs.Told.{kept_before, told_2, IsEachOf}
 use Rattle.asm_core.proofs.Cells.{entry}
-use Rattle.asm_core.proofs.findings.survey_2.Given as goal
+use Rattle.asm_core.proofs.findings.pass_2.Given as goal
 
 -- the lines that are left, the bytes of those before them, and what was told of these
 abbrev pub invariant-loop-line : goal.invariant-loop-line
@@ -11,7 +11,7 @@ invariant-loop-line l = record {
   inside : l.number ≤ length (source_lines l.fn.text);
   count : length l.cells.items ≡ 65536;
   kept : (address : ℕ) → entry l.cells.items address ≡ kept_before l.fn.isa (source_lines l.fn.text) l.number address;
-  told : IsEachOf (told_2 l.fn.isa (source_lines l.fn.text)) l.number l.found.items;
+  told : IsEachOf (told_2 l.fn.isa (source_lines l.fn.text)) l.number l.findings.items;
   few : l.number + length l.rest ≤ length l.fn.text;
 }
 
