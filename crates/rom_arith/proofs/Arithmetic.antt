@@ -24,9 +24,9 @@ use Rattle.rom_law.proofs.Places.{v_set, v_byte}
 use Rattle.rom_law.proofs.Kept.{RunsBlock}
 use Rattle.rom_rows.specs.Heads.{to_stop, to_dispatch, high_byte, low_byte, page_of, Entered, Enters}
 use Rattle.rom_rows.specs.FetchBlocks.FetchBlock.{Leave}
-use Rattle.rom_rows.specs.ArithBlocks.{has_shared_end, Ending, arith_moves}
+use Rattle.rom_rows.specs.ArithBlocks.{has_shared_end, Ending}
 use Rattle.rom_rows.specs.ArithBlocks.ArithBlock.{Arith, Operation, Flag, Unknown82}
-use Rattle.rom_rows.specs.Table.{calm_pieces, calm_top}
+use Rattle.rom_rows.specs.Table.{moves, calm_pieces, calm_top}
 use Rattle.rom_rows.specs.Table.Block.{OfArith}
 use Rattle.rom_rows.proofs.Digits.{by_digit}
 use Rattle.rom_rows.proofs.Bytes.{stack_top_is, variables_is}
@@ -122,18 +122,18 @@ module _ (e : Edition) (b : Machine) (h : Since) (f : FitsMachine b) where
     decoded o nibble = rw (o.digit, nibble) refl
 
     -- its instructions lead to c; what follows there is given
-    operation : (c : Machine) → (Room → AllGood (code (quick e)) (calm_top e) (arith_moves (Operation n)) slot)
-        → quicks (code (quick e)) (arith_moves (Operation n)) slot ≡ c
+    operation : (c : Machine) → (Room → AllGood (code (quick e)) (calm_top e) (moves (OfArith (Operation n))) slot)
+        → quicks (code (quick e)) (moves (OfArith (Operation n))) slot ≡ c
         → (Enters (quick e) (at_slot0 + 2 * n) 8 b (now h) → instr_at (now h) ≡ arithmetic n (high % 16) (low / 16) (high * 256 + low) → h.spent ≡ 92
-        → (h' : Since) → Grows h (arith_moves (Operation n)) 0 h' → Ends (quick e) (calm_pieces (quick e)) c h') → Case n
+        → (h' : Since) → Grows h (moves (OfArith (Operation n))) 0 h' → Ends (quick e) (calm_pieces (quick e)) c h') → Case n
     operation c good is ends o nibble by_r6 spent = record {
       runs = ready o.entered.holds;
       awake = o.entered.holds.awake;
       some = some (OfArith (Operation n));
       end = c;
       reaches =
-          reaches_from (code (quick e)) (calm_top e) (arith_moves (Operation n)) b _ _ (is_slot o by_r6)
-          (reaches_in (code (quick e)) (calm_top e) (arith_moves (Operation n)) _ _ (good (room o.entered)) is);
+          reaches_from (code (quick e)) (calm_top e) (moves (OfArith (Operation n))) b _ _ (is_slot o by_r6)
+          (reaches_in (code (quick e)) (calm_top e) (moves (OfArith (Operation n))) _ _ (good (room o.entered)) is);
       ends = ends o (decoded o nibble) spent;
     }
 
@@ -142,12 +142,12 @@ module _ (e : Edition) (b : Machine) (h : Since) (f : FitsMachine b) where
     Flagged value flag =
         let i = arithmetic n (high % 16) (low / 16) (high * 256 + low) in Entered (quick e) (at_slot0 + 2 * n) b (now h)
         → (has_shared_end i ≡ true) × (done_by e i Nothing (now h) ≡ set_with_flag (high % 16) (value vx vy) (flag vx vy) (now h))
-        × (cycles e i Nothing (now h) ≡ 110 + 2 * arith_moves (Operation n))
+        × (cycles e i Nothing (now h) ≡ 110 + 2 * moves (OfArith (Operation n)))
 
     -- its code leaves them in D and DF
     flagged : (value flag : ℕ → ℕ → ℕ) → Flagged value flag
-        → (Room → AllGood (code (quick e)) (calm_top e) (arith_moves (Operation n)) slot)
-        → quicks (code (quick e)) (arith_moves (Operation n)) slot
+        → (Room → AllGood (code (quick e)) (calm_top e) (moves (OfArith (Operation n))) slot)
+        → quicks (code (quick e)) (moves (OfArith (Operation n))) slot
         ≡ pointed at_flag (value (byte_x e b (now h)) (byte_y e b (now h))) (flag (byte_x e b (now h)) (byte_y e b (now h))) → Case n
     unfolding pointed
     flagged value flag does good is = operation _ good is (λ o instr spent h' g. to_arith (quick e) g _ refl Flag (record {
@@ -214,8 +214,8 @@ module _ (e : Edition) (b : Machine) (h : Since) (f : FitsMachine b) where
   left = flagged 14 (λ x y. y * 2 % 256) (λ x y. y * 2 / 256) (λ o. (refl, refl, refl)) (λ r. omega (arith, r)) refl
 
   -- where N is that of no instruction, the opcode is unknown
-  other : (n : ℕ) → arith_moves (Operation n) ≡ 1 → AllGood (code (quick e)) (calm_top e) (arith_moves (Operation n)) (slot n)
-      → quicks (code (quick e)) (arith_moves (Operation n)) (slot n) ≡ pointed at_unknown82 b.regs.d b.regs.df
+  other : (n : ℕ) → moves (OfArith (Operation n)) ≡ 1 → AllGood (code (quick e)) (calm_top e) (moves (OfArith (Operation n))) (slot n)
+      → quicks (code (quick e)) (moves (OfArith (Operation n))) (slot n) ≡ pointed at_unknown82 b.regs.d b.regs.df
       → ((x y o : ℕ) → arithmetic n x y o ≡ IsUnknown o) → Case n
   unfolding pointed
   other n one good is unknown =

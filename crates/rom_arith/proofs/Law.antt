@@ -6,14 +6,14 @@ use Rattle.chip8_lang.specs.declared.view.Edition.{Edition}
 use Rattle.chip8_image.specs.Labels.{at_slot0}
 use Rattle.chip8_image.specs.declared.parts.Part.TheVariants.{Arith as IsArith}
 use Rattle.rom_rows.specs.Heads.{Entered, low_byte}
-use Rattle.rom_rows.specs.ArithBlocks.{ArithBlock, no_skip_labels, arith_moves, arith_addresses}
+use Rattle.rom_rows.specs.ArithBlocks.{ArithBlock, no_skip_labels}
 use Rattle.rom_rows.specs.ArithBlocks.ArithBlock.{Load, Add, SkipEq, SkipNe, SkipSame, SameTest, SkipDiffer, DifferTest, NoSkip, Skip, Unknown81, Arith, Operation, Flag, Unknown82}
 use Rattle.rom_rows.specs.ArithBlocks.ArithBlock.{System, SystemLow, SystemBack, MachineCode, Return, ReturnTake, Empty, JumpTo, Call, CallPut, Full, JumpPlus}
 use Rattle.rom_rows.specs.Table.{Head, calm_pieces}
 use Rattle.rom_rows.specs.Table.Block.{OfArith}
 use Rattle.rom_law.specs.Rows.{Since, now}
 use Rattle.rom_law.proofs.Kept.{RunsBlock}
-use Rattle.rom_rows.proofs.Addresses.{Follows, runs_at, covers}
+use Rattle.rom_rows.proofs.Addresses.{Follows, runs_at, blocks_of, covers}
 use Rattle.rom_rows.proofs.Digits.{by_digit}
 use Rattle.rom_rows.proofs.Entry.{is_entered}
 use Rattle.rom_rows.proofs.Sounds.{block_rows}
@@ -60,7 +60,7 @@ main_rows e l = block_rows e (both_is e) (both_fits e) (OfArith l) (arith_block 
 
 module _ (e : Edition) (b : Machine) (h : Since) where
   no_skip_follows : (i : ℕ) → i < 4 → Entered (quick e) (slice_index no_skip_labels i) b (now h)
-      → Follows (quick e) (OfArith (NoSkip i)) (arith_addresses (NoSkip i)) b
+      → Follows (quick e) (OfArith (NoSkip i)) b
   no_skip_follows zero l o = record { same = _; is = is_entered o; follows = refl }
   no_skip_follows (suc zero) l o = record { same = _; is = is_entered o; follows = refl }
   no_skip_follows (suc (suc zero)) l o = record { same = _; is = is_entered o; follows = refl }
@@ -68,7 +68,7 @@ module _ (e : Edition) (b : Machine) (h : Since) where
   no_skip_follows (suc (suc (suc (suc i)))) l o = absurd (omega (arith, l))
 
   abbrev SlotFollows : ℕ → Type 0
-  SlotFollows n = Entered (quick e) (at_slot0 + 2 * n) b (now h) → Follows (quick e) (OfArith (Operation n)) (arith_addresses (Operation n)) b
+  SlotFollows n = Entered (quick e) (at_slot0 + 2 * n) b (now h) → Follows (quick e) (OfArith (Operation n)) b
 
   slot_follows : (n : ℕ) → low_byte (now h) % 16 ≡ n → SlotFollows n
   slot_follows n is =
@@ -82,7 +82,7 @@ module _ (e : Edition) (b : Machine) (h : Since) where
       (λ o. record { same = _; is = is_entered o; follows = refl }) (λ o. record { same = _; is = is_entered o; follows = refl }) n
       (omega (arith, is))
 
-arith_follows : (e : Edition) (l : ArithBlock) (b : Machine) (h : Since) → Head (quick e) (OfArith l) b h → Follows (quick e) (OfArith l) (arith_addresses l) b
+arith_follows : (e : Edition) (l : ArithBlock) (b : Machine) (h : Since) → Head (quick e) (OfArith l) b h → Follows (quick e) (OfArith l) b
 arith_follows e System b h o = record { same = _; is = is_entered o.0.entered; follows = refl }
 arith_follows e SystemLow b h o = record { same = _; is = is_entered o.0.0; follows = refl }
 arith_follows e SystemBack b h o = record { same = _; is = is_entered o.0.0; follows = refl }
@@ -112,7 +112,7 @@ arith_follows e Flag b h o = record { same = _; is = is_entered o.0.entered; fol
 arith_follows e Unknown82 b h o = record { same = _; is = is_entered o.0.0; follows = refl }
 
 pub arith_addresses_run : ArithAddresses arith_rom
-arith_addresses_run e l = runs_at e (both_is e) (both_fits e) (OfArith l) (arith_addresses l) (arith_block e l) (arith_follows e l)
+arith_addresses_run e l = runs_at e (both_is e) (both_fits e) (OfArith l) (arith_block e l) (arith_follows e l)
 
 blocks : List ArithBlock
 blocks =
@@ -124,4 +124,4 @@ blocks =
 
 pub arith_covered : ArithCovers
 unfolding blocks
-arith_covered = covers ArithBlock arith_moves arith_addresses blocks IsArith refl
+arith_covered = covers IsArith (blocks_of (λ l. OfArith l) blocks) refl

@@ -1,10 +1,11 @@
 -- 3XKK, 4XKK, 5XY0 and 9XY0, and the stop of 5XYN and 9XYN with another N.
-use Rattle.std.proofs.Common.{◌≡◌, ℕ, zero, suc, ◌+◌, ◌*◌, ◌/◌, ◌%◌, ◌<◌, ◌⊎◌, inl, inr, refl, sym, ◌∙◌, ap, ap₂, arith, Bool, true, false, not, cond, bit_and, slice_index}
+use Rattle.std.proofs.Common.{◌≡◌, ℕ, zero, suc, ◌+◌, ◌*◌, ◌/◌, ◌%◌, ◌<◌, ◌⊎◌, inl, inr, refl, sym, ◌∙◌, ap, ap₂, arith, Bool, true, false, not, cond, bit_and, List, slice_index}
 use Rattle.std.specs.Prelude.{◌==◌, bit_xor, Some}
 use Rattle.std.proofs.lemmas.Bool.{cases_eq, eq-eqb, ne_eqb, agree_below_at}
 use Rattle.std.proofs.lemmas.Nat.{and_mask}
 use Rattle.machine.specs.Bank.{Word, word_of, value, up}
 use Rattle.machine.specs.Board.{Machine}
+use Rattle.machine.specs.Keys.{Keys}
 use Rattle.machine.specs.Ranges.{FitsMachine}
 use Rattle.chip8_lang.specs.declared.view.Edition.{Edition}
 use Rattle.chip8_lang.specs.declared.view.Stop.TheVariants.{Unknown}
@@ -20,9 +21,9 @@ use Rattle.rom_law.proofs.Places.{pc_is, pc_set}
 use Rattle.rom_law.proofs.Kept.{RunsBlock}
 use Rattle.rom_rows.specs.Heads.{Within, to_stop, to_dispatch, high_byte, low_byte, Entered, Enters}
 use Rattle.rom_rows.specs.FetchBlocks.FetchBlock.{Leave}
-use Rattle.rom_rows.specs.ArithBlocks.{ArithBlock, no_skip_labels, has_shared_end, Ending, arith_at, arith_moves, arith_time}
+use Rattle.rom_rows.specs.ArithBlocks.{ArithBlock, no_skip_labels, has_shared_end, Ending, arith_data}
 use Rattle.rom_rows.specs.ArithBlocks.ArithBlock.{SkipEq, SkipNe, SkipSame, SameTest, SkipDiffer, DifferTest, NoSkip, Skip, Unknown81}
-use Rattle.rom_rows.specs.Table.{calm_pieces, calm_top}
+use Rattle.rom_rows.specs.Table.{moves, calm_pieces, calm_top}
 use Rattle.rom_rows.specs.Table.Block.{OfArith}
 use Rattle.rom_rows.proofs.Bits.{same_xor, other_xor, nonzero, is_zero}
 use Rattle.rom_rows.proofs.Branches.{branch, looked, looks}
@@ -66,10 +67,10 @@ module _ (e : Edition) (b : Machine) (h : Since) (f : FitsMachine b) where
 
   -- the block l tests d, and skips where t
   skips : (l : ArithBlock) (i : ℕ) {a : ℕ} → Entered (quick e) a b (now h) → (d : ℕ) (t far : Bool) → t ≡ far
-      → has_shared_end (instr_at (now h)) ≡ true → step e Nothing (now h) ≡ skip_if far (now h) → i < 4 → (n : ℕ) → h.spent + 2 * arith_moves l + 2 ≡ n
+      → has_shared_end (instr_at (now h)) ≡ true → step e Nothing (now h) ≡ skip_if far (now h) → i < 4 → (n : ℕ) → h.spent + 2 * moves (OfArith l) + 2 ≡ n
       → to_dispatch (quick e) (now h) ≡ skip_cycles n far
-      → AllGood (code (quick e)) (calm_top e) (arith_moves l) (entered e a high low b)
-      → quicks (code (quick e)) (arith_moves l) (entered e a high low b)
+      → AllGood (code (quick e)) (calm_top e) (moves (OfArith l)) (entered e a high low b)
+      → quicks (code (quick e)) (moves (OfArith l)) (entered e a high low b)
       ≡ tested d (cond t (word_of at_skip) (word_of (slice_index no_skip_labels i))) → RunsBlock (quick e) (calm_pieces (quick e)) (OfArith l) b h
   skips l i o d t far same shared makes small n spent time good is = branch (OfArith l) o (tested d) t at_skip (slice_index no_skip_labels i) good is
       (λ k h' g. to_arith (quick e) g _ refl Skip (record { entered = goes d at_skip o; shared = shared; makes = made k })
@@ -129,32 +130,32 @@ module _ (e : Edition) (b : Machine) (h : Since) (f : FitsMachine b) where
   n_other k n = nonzero (bit_and low 15) k (and_mask low 4 ∙ n)
 
   -- the block l tests N, and where it is 0 goes on at the block m, at w
-  n_test : (l m : ArithBlock) (w : ℕ) {a d : ℕ} → (o : Enters (quick e) a d b (now h)) → h.spent + 2 * arith_moves l ≡ 86
+  n_test : (l m : ArithBlock) (w : ℕ) {a d : ℕ} → (o : Enters (quick e) a d b (now h)) → h.spent + 2 * moves (OfArith l) ≡ 86
       → ((low % 16 ≡ 0 → ⊥) → stop_of e (now h) ≡ Some Unknown) → ((low % 16 ≡ 0 → ⊥) → to_stop (quick e) (now h) ≡ 112) → ((h' : Since) → h'.spent ≡ 86
-      → Within (arith_time (quick e) m (now h)) h')
-      → ((c : Machine) → Enters (quick e) w d c (now h) × (low % 16 ≡ 0) → arith_at (quick e) m c (now h)) → (value (word_of w) == at_halt) ≡ false
-      → AllGood (code (quick e)) (calm_top e) (arith_moves l) (entered e a high low b)
-      → quicks (code (quick e)) (arith_moves l) (entered e a high low b)
+      → Within ((arith_data m).time (quick e) (now h)) h')
+      → ((c : Machine) (sets : List Keys) → Enters (quick e) w d c (now h) × (low % 16 ≡ 0) → (arith_data m).at (quick e) c (now h) sets) → (value (word_of w) == at_halt) ≡ false
+      → AllGood (code (quick e)) (calm_top e) (moves (OfArith l)) (entered e a high low b)
+      → quicks (code (quick e)) (moves (OfArith l)) (entered e a high low b)
       ≡ looked e high low b (bit_and low 15) (cond (not (bit_and low 15 == 0)) (word_of at_unknown81) (word_of w))
       → RunsBlock (quick e) (calm_pieces (quick e)) (OfArith l) b h
   n_test l m w o spent unknown outside time at calm good is =
       branch (OfArith l) o.entered (looked e high low b (bit_and low 15)) (not (bit_and low 15 == 0)) at_unknown81 w good is
       (λ k h' g. to_arith (quick e) g _ refl Unknown81 (looks (bit_and low 15) at_unknown81 o.entered, unknown (n_other k))
       (omega (arith, spent, g.spent, outside (n_other k))))
-      (λ k h' g. to_arith (quick e) g _ calm m (at _ (record { entered = looks (bit_and low 15) w o.entered; digit = o.digit }, n_zero k))
+      (λ k h' g. to_arith (quick e) g _ calm m (at _ _ (record { entered = looks (bit_and low 15) w o.entered; digit = o.digit }, n_zero k))
       (time h' (omega (arith, spent, g.spent))))
 
   pub skip_same_comes : Enters (quick e) at_skip_same 5 b (now h) → h.spent ≡ 80 → RunsBlock (quick e) (calm_pieces (quick e)) (OfArith SkipSame) b h
   skip_same_comes o spent =
       n_test SkipSame SameTest at_skip_same_test o (omega (arith, spent)) (λ d. rw (o.entered.inside, o.digit, ne_eqb (low % 16) 0 d) refl)
       (λ d. rw (o.entered.inside, o.digit, ne_eqb (low % 16) 0 d, o.digit) refl)
-      (λ h' t. t) (λ c z. z) refl (omega arith) refl
+      (λ h' t. t) (λ c sets z. z) refl (omega arith) refl
 
   pub skip_differ_comes : Enters (quick e) at_skip_differ 9 b (now h) → h.spent ≡ 80 → RunsBlock (quick e) (calm_pieces (quick e)) (OfArith SkipDiffer) b h
   skip_differ_comes o spent =
       n_test SkipDiffer DifferTest at_differ_test o (omega (arith, spent)) (λ d. rw (o.entered.inside, o.digit, ne_eqb (low % 16) 0 d) refl)
       (λ d. rw (o.entered.inside, o.digit, ne_eqb (low % 16) 0 d, o.digit) refl)
-      (λ h' t. t) (λ c z. z) refl (omega arith) refl
+      (λ h' t. t) (λ c sets z. z) refl (omega arith) refl
 
   -- ---- the ends
 

@@ -3,7 +3,7 @@ use Rattle.std.specs.Prelude.{ℕ, List}
 use Rattle.chip8_lang.specs.declared.view.Edition.{Edition}
 use Rattle.chip8_image.specs.declared.parts.Part.TheVariants.{Arith}
 use Rattle.rom_rows.specs.Rom.{program_of}
-use Rattle.rom_rows.specs.ArithBlocks.{ArithBlock, arith_moves, arith_addresses}
+use Rattle.rom_rows.specs.ArithBlocks.{ArithBlock}
 use Rattle.rom_rows.specs.Table.{BlockRows}
 use Rattle.rom_rows.specs.Table.Block.{OfArith}
 use Rattle.rom_rows.specs.Addresses.{RunsAt, Covers}
@@ -14,8 +14,8 @@ ArithRows rom = (e : Edition) (l : ArithBlock) → BlockRows (program_of e (rom 
 
 -- in those rows the program counter is at the block's addresses in turn
 abbrev pub ArithAddresses : (Edition → List ℕ) → Type 0
-ArithAddresses rom = (e : Edition) (l : ArithBlock) → RunsAt (program_of e (rom e)) (OfArith l) (arith_addresses l)
+ArithAddresses rom = (e : Edition) (l : ArithBlock) → RunsAt (program_of e (rom e)) (OfArith l)
 
 -- and each instruction of that code is in some block
 abbrev pub ArithCovers : Type 0
-ArithCovers = Covers ArithBlock arith_moves arith_addresses Arith
+ArithCovers = Covers Arith

@@ -8,18 +8,19 @@ use Rattle.chip8_image.specs.Labels.{at_outside, at_fetch, at_upper, at_inside, 
 use Rattle.chip8_image.specs.declared.parts.Part.TheVariants.{Fetch as IsFetch}
 use Rattle.rom_law.specs.Program.{code}
 use Rattle.rom_law.specs.Rows.{Since}
-use Rattle.rom_rows.specs.FetchBlocks.{FetchBlock, fetch_moves, fetch_addresses, misc_labels}
+use Rattle.rom_rows.specs.FetchBlocks.{FetchBlock, fetch_data, misc_labels}
 use Rattle.rom_rows.specs.FetchBlocks.FetchBlock.{Fetch, Upper, Inside, Outside, Misc, Unknown83, Leave, Stop, Stopped}
+use Rattle.rom_rows.specs.Blocks.{addresses as addresses_in}
 use Rattle.rom_rows.specs.Table.{Head}
 use Rattle.rom_rows.specs.Table.Block.{OfFetch}
-use Rattle.rom_rows.proofs.Addresses.{follows, Follows, runs_at, covers}
+use Rattle.rom_rows.proofs.Addresses.{follows, Follows, runs_at, blocks_of, covers}
 use Rattle.rom_rows.proofs.Entry.{on_4, is_on_4, on_3, is_on_3}
 use Rattle.rom_fetch.proofs.Rom.{both_is, both_fits, quick}
 use Rattle.rom_fetch.specs.Laws.{FetchAddresses, FetchCovers}
 use Rattle.rom_fetch.proofs.Law.{fetch_block}
 use Rattle.rom_fetch.specs.Code.{fetch_rom}
 
-fetch_follows : (e : Edition) (l : FetchBlock) (b : Machine) (h : Since) → Head (quick e) (OfFetch l) b h → Follows (quick e) (OfFetch l) (fetch_addresses l) b
+fetch_follows : (e : Edition) (l : FetchBlock) (b : Machine) (h : Since) → Head (quick e) (OfFetch l) b h → Follows (quick e) (OfFetch l) b
 fetch_follows e Fetch b h o = record { same = on_4 (word_of at_fetch) b; is = is_on_4 o.0; follows = refl }
 fetch_follows e Upper b h o = record { same = on_4 (word_of at_upper) b; is = is_on_4 o.0.0; follows = refl }
 fetch_follows e Inside b h o = record { same = on_4 (word_of at_inside) b; is = is_on_4 o.0.0; follows = refl }
@@ -28,7 +29,7 @@ fetch_follows e (Misc i) b h o =
     record {
       same = on_3 (slice_index misc_labels i) b;
       is = is_on_3 (slice_index misc_labels i) b o.0.0.entered.p o.0.0.entered.r3;
-      follows = agree_below_at (λ j. follows (code (quick e)) (fetch_addresses (Misc j)) 3 (on_3 (slice_index misc_labels j) b))
+      follows = agree_below_at (λ j. follows (code (quick e)) (addresses_in (fetch_data (Misc j))) 3 (on_3 (slice_index misc_labels j) b))
           (λ j. true) 9 i refl o.0.2;
     }
 fetch_follows e Unknown83 b h o = record { same = on_3 at_unknown83 b; is = is_on_3 at_unknown83 b o.0.0.entered.p o.0.0.entered.r3; follows = refl }
@@ -36,14 +37,14 @@ fetch_follows e (Leave i) b h o =
     record {
       same = on_3 (at_leave81 + 0x100 * i) b;
       is = is_on_3 (at_leave81 + 0x100 * i) b o.0.0.p o.0.0.r3;
-      follows = agree_below_at (λ j. follows (code (quick e)) (fetch_addresses (Leave j)) 3 (on_3 (at_leave81 + 0x100 * j) b))
+      follows = agree_below_at (λ j. follows (code (quick e)) (addresses_in (fetch_data (Leave j))) 3 (on_3 (at_leave81 + 0x100 * j) b))
           (λ j. true) 4 i refl o.0.1;
     }
 fetch_follows e Stop b h o = record { same = on_3 at_stop b; is = is_on_3 at_stop b o.0.p o.0.r3; follows = refl }
 fetch_follows e Stopped b h o = record { same = on_3 at_stopped b; is = is_on_3 at_stopped b o.0.p o.0.r3; follows = refl }
 
 pub addresses : FetchAddresses fetch_rom
-addresses e l = runs_at e (both_is e) (both_fits e) (OfFetch l) (fetch_addresses l) (fetch_block e l) (fetch_follows e l)
+addresses e l = runs_at e (both_is e) (both_fits e) (OfFetch l) (fetch_block e l) (fetch_follows e l)
 
 blocks : List FetchBlock
 blocks =
@@ -52,4 +53,4 @@ blocks =
 
 pub covered : FetchCovers
 unfolding blocks
-covered = covers FetchBlock fetch_moves fetch_addresses blocks IsFetch refl
+covered = covers IsFetch (blocks_of (λ l. OfFetch l) blocks) refl

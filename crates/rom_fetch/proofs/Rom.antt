@@ -1,23 +1,21 @@
 -- The ROM that this part's bytes are laid into, as one list for both editions, so that code is run by computing.
-use Rattle.std.proofs.Common.{◌≡◌, ℕ, refl, ap, List}
+use Rattle.std.proofs.Common.{◌≡◌, ℕ, refl, List}
 use Rattle.machine.specs.Ranges.{FitsRom}
 use Rattle.chip8_lang.specs.declared.view.Edition.{Edition}
-use Rattle.chip8_lang.specs.declared.view.Edition.TheVariants.{Usual, Tall}
 use Rattle.rom_law.specs.Program.{Program}
-use Rattle.rom_rows.specs.Rom.{laid, program_of}
-use Rattle.rom_rows.proofs.Bytes.{both as image_bytes, both_is as image_is, rom_fits}
+use Rattle.rom_rows.specs.Rom.{program_of}
+use Rattle.rom_rows.proofs.Bytes.{with_part, with_part_is, with_part_fits}
 use Rattle.rom_fetch.specs.Code.{fetch_code, fetch_rom}
 
 abbrev pub both : Edition → List ℕ
-both e = laid (fetch_code e) (image_bytes e)
+both e = with_part fetch_code e
 
 -- the interpreter with these bytes
 abbrev pub quick : Edition → Program
 quick e = program_of e (both e)
 
 pub both_is : (e : Edition) → both e ≡ fetch_rom e
-both_is e = ap (laid (fetch_code e)) (image_is e)
+both_is e = with_part_is fetch_code e
 
 pub both_fits : (e : Edition) → FitsRom (both e)
-both_fits Usual = rom_fits (both Usual) refl refl
-both_fits Tall = rom_fits (both Tall) refl refl
+both_fits = with_part_fits fetch_code refl

@@ -12,7 +12,7 @@ use Rattle.rom_law.specs.Code.{Input, moved}
 use Rattle.rom_law.specs.Program.{code, Dispatches}
 use Rattle.rom_law.specs.Rows.{Since, InBlock, after_main}
 use Rattle.rom_rows.specs.Rom.{interpreter_of, program_of}
-use Rattle.rom_rows.specs.FetchBlocks.{FetchBlock, fetch_moves, fetch_addresses}
+use Rattle.rom_rows.specs.FetchBlocks.{FetchBlock}
 use Rattle.rom_rows.specs.Table.{pieces, BlockRows}
 use Rattle.rom_rows.specs.Table.Block.{OfFetch}
 use Rattle.rom_rows.specs.Addresses.{RunsAt, Covers}
@@ -33,11 +33,11 @@ DispatchTime rom =
 
 -- in those rows the program counter is at the block's addresses in turn
 abbrev pub FetchAddresses : (Edition → List ℕ) → Type 0
-FetchAddresses rom = (e : Edition) (l : FetchBlock) → RunsAt (program_of e (rom e)) (OfFetch l) (fetch_addresses l)
+FetchAddresses rom = (e : Edition) (l : FetchBlock) → RunsAt (program_of e (rom e)) (OfFetch l)
 
 -- and each instruction of that code is in some block
 abbrev pub FetchCovers : Type 0
-FetchCovers = Covers FetchBlock fetch_moves fetch_addresses Fetch
+FetchCovers = Covers Fetch
 
 -- the moves of boot
 abbrev pub boot_moves : ℕ

@@ -1,5 +1,5 @@
 -- The addresses of these blocks and places.
-use Rattle.std.proofs.Common.{◌≡◌, ℕ, refl, ◌∙◌, ap, true, false, List, [], ◌∷◌}
+use Rattle.std.proofs.Common.{◌≡◌, ℕ, refl, ◌∙◌, ap, true, false, List, [], ◌∷◌, ◌++◌}
 use Rattle.machine.specs.Bank.{word_of, value}
 use Rattle.machine.specs.Instruction.{at}
 use Rattle.machine.specs.Board.{Machine}
@@ -7,21 +7,21 @@ use Rattle.chip8_lang.specs.declared.view.Edition.{Edition}
 use Rattle.chip8_image.specs.Labels.{at_key_yes, at_key_test, at_key_held}
 use Rattle.chip8_image.specs.declared.parts.Part.TheVariants.{Keys}
 use Rattle.rom_law.specs.Rows.{Since}
-use Rattle.rom_rows.specs.KeyBlocks.{KeyBlock, key_addresses, skip_test_label, no_skip_label}
+use Rattle.rom_rows.specs.KeyBlocks.{KeyBlock, KeyPlace, skip_test_label, no_skip_label}
 use Rattle.rom_rows.specs.KeyBlocks.KeyBlock.{KeySkip, KeySkipUp, SkipLatch, NoSkip, Skip, WaitKey, KeyNext, KeyCount, KeyFreed}
 use Rattle.rom_rows.specs.KeyBlocks.KeyPlace.{SkipTest, KeyTest, KeyHeld}
 use Rattle.rom_rows.specs.Table.{Head}
 use Rattle.rom_rows.specs.Table.Block.{OfKey}
-use Rattle.rom_rows.proofs.Addresses.{Follows, runs_at, covers}
+use Rattle.rom_rows.specs.Table.Place.{AtKey}
+use Rattle.rom_rows.proofs.Addresses.{Follows, runs_at, blocks_of, places_of, covers}
 use Rattle.rom_rows.proofs.Entry.{is_entered, on_3, is_on_3}
 use Rattle.rom_keys.proofs.Rom.{both_is, both_fits, quick}
-use Rattle.rom_keys.specs.Laws.{KeyAddresses, KeyPlaceAddresses, KeyCovers, KeyPiece, piece_moves, piece_addresses}
-use Rattle.rom_keys.specs.Laws.KeyPiece.{OfBlock, OfPlace}
+use Rattle.rom_keys.specs.Laws.{KeyAddresses, KeyPlaceAddresses, KeyCovers}
 use Rattle.rom_keys.proofs.Law.{key_block}
 use Rattle.rom_keys.proofs.Waits.{is_turning}
 use Rattle.rom_keys.specs.Code.{keys_rom}
 
-follows : (e : Edition) (l : KeyBlock) (b : Machine) (h : Since) → Head (quick e) (OfKey l) b h → Follows (quick e) (OfKey l) (key_addresses l) b
+follows : (e : Edition) (l : KeyBlock) (b : Machine) (h : Since) → Head (quick e) (OfKey l) b h → Follows (quick e) (OfKey l) b
 follows e KeySkip b h o = record { same = _; is = is_entered o.0.entered; follows = refl }
 follows e KeySkipUp b h o = record { same = _; is = is_entered o.0.0.entered; follows = refl }
 follows e (SkipLatch true) b h o = record { same = _; is = is_entered o.0.0.entered; follows = refl }
@@ -35,7 +35,7 @@ follows e (KeyCount turn) b h o = record { same = _; is = is_entered o.0.0.waiti
 follows e (KeyFreed turn looks) b h o = record { same = _; is = is_entered o.0.0.enters.entered; follows = refl }
 
 pub addresses : KeyAddresses keys_rom
-addresses e l = runs_at e (both_is e) (both_fits e) (OfKey l) (key_addresses l) (key_block e l) (follows e l)
+addresses e l = runs_at e (both_is e) (both_fits e) (OfKey l) (key_block e l) (follows e l)
 
 -- the program counter where P is 3
 counter : (a : ℕ) (b : Machine) → b.regs.p ≡ 3 → b.regs.r.r3 ≡ word_of a → at b.regs b.regs.p ≡ value (word_of a)
@@ -47,12 +47,15 @@ place_addresses e (SkipTest false) b h o = counter (skip_test_label false) b o.0
 place_addresses e (KeyTest turn) b h o = counter at_key_test b o.0.0.waiting.enters.entered.p o.0.0.waiting.enters.entered.r3
 place_addresses e (KeyHeld turn looks) b h o = counter at_key_held b o.0.0.enters.entered.p o.0.0.enters.entered.r3
 
-key_pieces : List KeyPiece
-key_pieces =
-    OfBlock KeySkip ∷ OfBlock KeySkipUp ∷ OfBlock (SkipLatch true) ∷ OfBlock (SkipLatch false) ∷ OfBlock (NoSkip true) ∷ OfBlock (NoSkip false) ∷
-    OfBlock (Skip true) ∷ OfBlock WaitKey ∷ OfBlock (KeyNext 0) ∷ OfBlock (KeyCount 0) ∷ OfBlock (KeyFreed 0 0) ∷
-    OfPlace (SkipTest true) ∷ OfPlace (SkipTest false) ∷ OfPlace (KeyTest 0) ∷ OfPlace (KeyHeld 0 0) ∷ []
+blocks : List KeyBlock
+blocks =
+    KeySkip ∷ KeySkipUp ∷ SkipLatch true ∷ SkipLatch false ∷ NoSkip true ∷ NoSkip false ∷ Skip true ∷ WaitKey ∷ KeyNext 0 ∷ KeyCount 0 ∷
+    KeyFreed 0 0 ∷ []
+
+places : List KeyPlace
+places =
+    SkipTest true ∷ SkipTest false ∷ KeyTest 0 ∷ KeyHeld 0 0 ∷ []
 
 pub covered : KeyCovers
-unfolding key_pieces
-covered = covers KeyPiece piece_moves piece_addresses key_pieces Keys refl
+unfolding blocks places
+covered = covers Keys (blocks_of (λ l. OfKey l) blocks ++ places_of (λ l. AtKey l) places) refl

@@ -11,7 +11,7 @@ use Rattle.rom_law.specs.Code.{Input}
 use Rattle.rom_law.specs.Program.{Program}
 use Rattle.rom_law.specs.Rows.{Since, InBlock, dispatched, after_main, after_tick}
 use Rattle.rom_rows.specs.Rom.{program_of}
-use Rattle.rom_rows.specs.KeyBlocks.{KeyBlock, KeyPlace, key_moves, key_addresses, key_place_address}
+use Rattle.rom_rows.specs.KeyBlocks.{KeyBlock, KeyPlace, key_place_data}
 use Rattle.rom_rows.specs.KeyBlocks.KeyBlock.{KeyNext, KeyCount, KeyFreed}
 use Rattle.rom_rows.specs.KeyBlocks.KeyPlace.{KeyTest, KeyHeld}
 use Rattle.rom_rows.specs.Table.{At, BlockRows, PlaceRows, pieces}
@@ -32,31 +32,17 @@ KeyPlaceRows rom = (e : Edition) (l : KeyPlace) → PlaceRows (program_of e (rom
 
 -- in the rows of a block the program counter is at the block's addresses in turn, and at a place at its address
 abbrev pub KeyAddresses : (Edition → List ℕ) → Type 0
-KeyAddresses rom = (e : Edition) (l : KeyBlock) → RunsAt (program_of e (rom e)) (OfKey l) (key_addresses l)
+KeyAddresses rom = (e : Edition) (l : KeyBlock) → RunsAt (program_of e (rom e)) (OfKey l)
 
 abbrev pub KeyPlaceAddresses : (Edition → List ℕ) → Type 0
 KeyPlaceAddresses rom =
     (e : Edition) (l : KeyPlace) (b : Machine) (h : Since)
     → At (program_of e (rom e)) (AtKey l) b h
-    → at b.regs b.regs.p ≡ key_place_address l
-
--- a block or a place
-pub data KeyPiece : Type 0 where
-  OfBlock : (l : KeyBlock) → KeyPiece
-  OfPlace : (l : KeyPlace) → KeyPiece
-
--- how many instructions it has, and where they begin
-abbrev pub piece_moves : KeyPiece → ℕ
-piece_moves (OfBlock l) = key_moves l
-piece_moves (OfPlace l) = 1
-
-abbrev pub piece_addresses : KeyPiece → List ℕ
-piece_addresses (OfBlock l) = key_addresses l
-piece_addresses (OfPlace l) = key_place_address l ∷ []
+    → at b.regs b.regs.p ≡ (key_place_data l).address
 
 -- each instruction of that code is in some block or at some place
 abbrev pub KeyCovers : Type 0
-KeyCovers = Covers KeyPiece piece_moves piece_addresses IsKeys
+KeyCovers = Covers IsKeys
 
 -- ---- the sets of keys in FX0A
 

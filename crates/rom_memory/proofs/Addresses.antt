@@ -7,11 +7,11 @@ use Rattle.chip8_image.specs.declared.parts.Part.TheVariants.{Memory}
 use Rattle.rom_law.specs.Rows.{Since}
 use Rattle.rom_rows.specs.Checks.Caller.{ForDecimal}
 use Rattle.rom_rows.specs.Checks.Answer.{InGame, InFont, Nowhere}
-use Rattle.rom_rows.specs.MemoryBlocks.{MemoryBlock, memory_moves, memory_addresses}
+use Rattle.rom_rows.specs.MemoryBlocks.{MemoryBlock}
 use Rattle.rom_rows.specs.MemoryBlocks.MemoryBlock.{Index, AddIndex, Digit, Check, CheckGame, CheckFont, CheckLow, Answering, Decimal, DecimalFound, Hundreds, HundredsEnd, Tens, TensEnd, Store, StoreFound, StoreByte, StoreEnd, Restore, RestoreFound, RestoreByte, RestoreEnd}
 use Rattle.rom_rows.specs.Table.{Head}
 use Rattle.rom_rows.specs.Table.Block.{OfMemory}
-use Rattle.rom_rows.proofs.Addresses.{Follows, runs_at, covers}
+use Rattle.rom_rows.proofs.Addresses.{Follows, runs_at, blocks_of, covers}
 use Rattle.rom_rows.proofs.Entry.{is_entered, on_3, is_on_3}
 use Rattle.rom_memory.proofs.Rom.{both_is, both_fits, quick}
 use Rattle.rom_memory.specs.Laws.{MemoryAddresses, MemoryCovers}
@@ -20,7 +20,7 @@ use Rattle.rom_memory.proofs.Found.{is_resumed}
 use Rattle.rom_memory.proofs.Law.{memory_block}
 use Rattle.rom_memory.specs.Code.{memory_rom}
 
-follows : (e : Edition) (l : MemoryBlock) (b : Machine) (h : Since) → Head (quick e) (OfMemory l) b h → Follows (quick e) (OfMemory l) (memory_addresses l) b
+follows : (e : Edition) (l : MemoryBlock) (b : Machine) (h : Since) → Head (quick e) (OfMemory l) b h → Follows (quick e) (OfMemory l) b
 follows e Index b h o = record { same = _; is = is_entered o.0.entered; follows = refl }
 follows e AddIndex b h o = record { same = _; is = is_entered o.0.0.entered; follows = refl }
 follows e Digit b h o = record { same = _; is = is_entered o.0.0.entered; follows = refl }
@@ -53,7 +53,7 @@ follows e (RestoreByte k) b h o = record { same = on_3 at_restore_byte b; is = i
 follows e RestoreEnd b h o = record { same = on_3 at_restore_end b; is = is_on_3 at_restore_end b o.0.0.p o.0.0.r3; follows = refl }
 
 pub memory_addresses_run : MemoryAddresses memory_rom
-memory_addresses_run e l = runs_at e (both_is e) (both_fits e) (OfMemory l) (memory_addresses l) (memory_block e l) (follows e l)
+memory_addresses_run e l = runs_at e (both_is e) (both_fits e) (OfMemory l) (memory_block e l) (follows e l)
 
 blocks : List MemoryBlock
 blocks =
@@ -63,4 +63,4 @@ blocks =
 
 pub memory_covered : MemoryCovers
 unfolding blocks
-memory_covered = covers MemoryBlock memory_moves memory_addresses blocks Memory refl
+memory_covered = covers Memory (blocks_of (λ l. OfMemory l) blocks) refl

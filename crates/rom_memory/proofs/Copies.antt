@@ -1,10 +1,11 @@
 -- FX55 and FX65: V0 to VX are stored from I on, or fetched from there.
-use Rattle.std.proofs.Common.{◌≡◌, ℕ, suc, ◌+◌, ◌-◌, ◌*◌, ◌/◌, ◌%◌, ◌<◌, ◌≤◌, refl, ◌∙◌, ap, ap₂, subst, arith, true, false, bit_and, take, drop, ◌++◌, slice_index, slice_set}
+use Rattle.std.proofs.Common.{◌≡◌, ℕ, suc, ◌+◌, ◌-◌, ◌*◌, ◌/◌, ◌%◌, ◌<◌, ◌≤◌, refl, ◌∙◌, ap, ap₂, subst, arith, true, false, bit_and, take, drop, ◌++◌, slice_index, slice_set, List}
 use Rattle.std.specs.Prelude.{◌==◌, not, Some, None}
 use Rattle.std.proofs.lemmas.Nat.{and_mask}
 use Rattle.machine.specs.Bank.{Word, word, word_of, value, up}
 use Rattle.machine.specs.Memory.{read, written}
 use Rattle.machine.specs.Board.{Machine}
+use Rattle.machine.specs.Keys.{Keys}
 use Rattle.machine.specs.Ranges.{FitsMachine}
 use Rattle.chip8_lang.specs.declared.instr.Instr.TheVariants.{Store as IsStore, Fetch as IsFetch}
 use Rattle.chip8_lang.specs.declared.view.Edition.{Edition}
@@ -24,7 +25,7 @@ use Rattle.rom_rows.specs.Heads.{to_stop, high_byte, low_byte, page_of, Enters}
 use Rattle.rom_rows.specs.Checks.{answer_time, Calls, Checked, Answer}
 use Rattle.rom_rows.specs.Checks.Caller.{ForStore, ForRestore}
 use Rattle.rom_rows.specs.Checks.Answer.{InGame, InFont, Nowhere}
-use Rattle.rom_rows.specs.MemoryBlocks.{memory_at, last_of, Copying, Turn, stored_to, fetched_to}
+use Rattle.rom_rows.specs.MemoryBlocks.{memory_data, last_of, Copying, Turn, stored_to, fetched_to}
 use Rattle.rom_rows.specs.MemoryBlocks.MemoryBlock.{Check, Store, StoreFound, StoreByte, StoreEnd, Restore, RestoreFound, RestoreByte, RestoreEnd}
 use Rattle.rom_rows.specs.Table.{calm_pieces, calm_top}
 use Rattle.rom_rows.specs.Table.Block.{OfMemory}
@@ -153,8 +154,8 @@ module _ (e : Edition) (b : Machine) (h : Since) (f : FitsMachine b) where
       }
 
   begins : {answer : Answer} → Checked (quick e) ForRestore answer b (now h) → is_readable e i (last + 1) ≡ true
-      → memory_at (quick e) (RestoreByte 0) begun (now h)
-  begins o readable = (
+      → (sets : List Keys) → (memory_data (RestoreByte 0)).at (quick e) begun (now h) sets
+  begins o readable sets = (
     record {
       holds = subst (λ z. Holding (quick e) (places b) (record (next (now h)) { i = z })) (none_more i) o.called.holds;
       inside = o.called.inside;
@@ -184,10 +185,10 @@ module _ (e : Edition) (b : Machine) (h : Since) (f : FitsMachine b) where
       → RunsBlock (quick e) (calm_pieces (quick e)) (OfMemory (RestoreFound answer)) b h
   restore_found_comes InGame o spent =
       straight (OfMemory (RestoreFound InGame)) o.called.holds _ (is_resumed o) begun (omega arith) refl
-      (λ h' g. to_memory (quick e) g begun refl (RestoreByte 0) (begins o (rw o.is refl)) (omega (arith, spent, g.spent, check_none o.is)))
+      (λ h' g. to_memory (quick e) g begun refl (RestoreByte 0) (begins o (rw o.is refl) h'.keys) (omega (arith, spent, g.spent, check_none o.is)))
   restore_found_comes InFont o spent =
       straight (OfMemory (RestoreFound InFont)) o.called.holds _ (is_resumed o) begun (omega arith) refl
-      (λ h' g. to_memory (quick e) g begun refl (RestoreByte 0) (begins o (rw (o.is.0, o.is.1) refl)) (omega (arith, spent, g.spent, check_some o.is.0)))
+      (λ h' g. to_memory (quick e) g begun refl (RestoreByte 0) (begins o (rw (o.is.0, o.is.1) refl) h'.keys) (omega (arith, spent, g.spent, check_some o.is.0)))
   restore_found_comes Nowhere o spent =
       refused (OfMemory (RestoreFound Nowhere)) ReadOutside o (restore_stops o.called.inside o.called.calls o.is.0 o.is.1)
       (reaches_in (code (quick e)) (calm_top e) 4 _ _ (omega arith) refl) (omega (arith, spent, restore_time o.called.inside o.called.calls))

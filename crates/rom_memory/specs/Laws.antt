@@ -3,7 +3,7 @@ use Rattle.std.specs.Prelude.{ℕ, List}
 use Rattle.chip8_lang.specs.declared.view.Edition.{Edition}
 use Rattle.chip8_image.specs.declared.parts.Part.TheVariants.{Memory}
 use Rattle.rom_rows.specs.Rom.{program_of}
-use Rattle.rom_rows.specs.MemoryBlocks.{MemoryBlock, memory_moves, memory_addresses}
+use Rattle.rom_rows.specs.MemoryBlocks.{MemoryBlock}
 use Rattle.rom_rows.specs.Table.{BlockRows}
 use Rattle.rom_rows.specs.Table.Block.{OfMemory}
 use Rattle.rom_rows.specs.Addresses.{RunsAt, Covers}
@@ -14,8 +14,8 @@ MemoryRows rom = (e : Edition) (l : MemoryBlock) → BlockRows (program_of e (ro
 
 -- in those rows the program counter is at the block's addresses in turn
 abbrev pub MemoryAddresses : (Edition → List ℕ) → Type 0
-MemoryAddresses rom = (e : Edition) (l : MemoryBlock) → RunsAt (program_of e (rom e)) (OfMemory l) (memory_addresses l)
+MemoryAddresses rom = (e : Edition) (l : MemoryBlock) → RunsAt (program_of e (rom e)) (OfMemory l)
 
 -- and each instruction of that code is in some block
 abbrev pub MemoryCovers : Type 0
-MemoryCovers = Covers MemoryBlock memory_moves memory_addresses Memory
+MemoryCovers = Covers Memory

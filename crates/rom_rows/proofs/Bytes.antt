@@ -1,15 +1,15 @@
 -- Both ROMs as one list, so that code is run by computing for both editions at once: a byte in which they differ is a choice by the
 -- edition.
-use Rattle.std.proofs.Common.{◌≡◌, ℕ, zero, suc, ◌+◌, ◌*◌, ◌<◌, refl, lit<, Bool, true, ◌&&◌, List, [], ◌∷◌, length, cond, slice_index, nat_lt}
+use Rattle.std.proofs.Common.{◌≡◌, ℕ, zero, suc, ◌+◌, ◌*◌, ◌<◌, refl, ap, lit<, Bool, true, ◌&&◌, List, [], ◌∷◌, length, cond, slice_index, nat_lt}
 use Rattle.std.specs.Prelude.{◌==◌}
-use Rattle.std.proofs.lemmas.Bool.{and_parts, ltb-true}
+use Rattle.std.proofs.lemmas.Bool.{and_parts, eqb-true, ltb-true}
 use Rattle.machine.specs.Ranges.{FitsRom}
 use Rattle.chip8_lang.specs.declared.view.Edition.{Edition}
 use Rattle.chip8_lang.specs.declared.view.Edition.TheVariants.{Usual, Tall}
 use Rattle.chip8_lang.specs.Editions.{memory_end, stack_top, variables}
 use Rattle.chip8_image.specs.declared.image.TheConstants.{IMAGE, TALL}
 use Rattle.rom_law.specs.Program.{Program}
-use Rattle.rom_rows.specs.Rom.{image, program_of}
+use Rattle.rom_rows.specs.Rom.{Stretch, image, laid, program_of}
 use Rattle.rom_rows.specs.Heads.{by_edition, page_of}
 
 abbrev pub joined : Edition → List ℕ → List ℕ → List ℕ
@@ -46,6 +46,30 @@ rom_fits rom size bytes = record { size = size; bytes = byte_fits rom bytes }
 pub both_fits : (e : Edition) → FitsRom (both e)
 both_fits Usual = rom_fits (both Usual) refl refl
 both_fits Tall = rom_fits (both Tall) refl refl
+
+-- ---- a part's bytes laid into it
+
+abbrev pub with_part : (Edition → List Stretch) → Edition → List ℕ
+with_part code e = laid (code e) (both e)
+
+pub with_part_is : (code : Edition → List Stretch) (e : Edition) → with_part code e ≡ laid (code e) (image e)
+with_part_is code e = ap (laid (code e)) (both_is e)
+
+-- computed for each edition
+abbrev pub part_fits : (Edition → List Stretch) → Edition → Bool
+part_fits code e = length (with_part code e) == 2048 && all_bytes (with_part code e)
+
+pub with_part_fits : (code : Edition → List Stretch) → (part_fits code Usual && part_fits code Tall) ≡ true → (e : Edition) → FitsRom (with_part code e)
+with_part_fits code h e = go (is_fit e)
+  where
+    is_fit : (e : Edition) → part_fits code e ≡ true
+    is_fit Usual = (and_parts (part_fits code Usual) (part_fits code Tall) h).0
+    is_fit Tall = (and_parts (part_fits code Usual) (part_fits code Tall) h).1
+
+    go : part_fits code e ≡ true → FitsRom (with_part code e)
+    go k =
+        let two = and_parts (length (with_part code e) == 2048) (all_bytes (with_part code e)) k in
+        rom_fits (with_part code e) (eqb-true (length (with_part code e)) 2048 two.0) two.1
 
 -- ---- the places of an edition
 

@@ -8,40 +8,48 @@ use Rattle.rom_law.specs.Rows.Ends.{Continues}
 use Rattle.rom_law.specs.Rows.Starts.{Enters, Meets}
 use Rattle.rom_law.proofs.Steps.{now_same}
 use Rattle.rom_rows.specs.Heads.{Within}
-use Rattle.rom_rows.specs.FetchBlocks.{FetchBlock, fetch_at, fetch_time}
-use Rattle.rom_rows.specs.ArithBlocks.{ArithBlock, arith_at, arith_time}
-use Rattle.rom_rows.specs.MemoryBlocks.{MemoryBlock, memory_at, memory_time}
-use Rattle.rom_rows.specs.SpriteBlocks.{SpriteBlock, IsEarly, SpritePlace, sprite_at, sprite_time, sprite_place_at, sprite_place_time}
-use Rattle.rom_rows.specs.TimerBlocks.{TimerBlock, TimerPlace, timer_at, timer_time, timer_place_at, timer_place_time}
-use Rattle.rom_rows.specs.KeyBlocks.{KeyBlock, KeyPlace, key_at, key_time, key_place_at, key_place_time}
-use Rattle.rom_rows.specs.Table.{calm_pieces}
+use Rattle.rom_rows.specs.FetchBlocks.{FetchBlock, fetch_data}
+use Rattle.rom_rows.specs.ArithBlocks.{ArithBlock, arith_data}
+use Rattle.rom_rows.specs.MemoryBlocks.{MemoryBlock, memory_data}
+use Rattle.rom_rows.specs.SpriteBlocks.{SpriteBlock, IsEarly, SpritePlace, sprite_data, sprite_place_data}
+use Rattle.rom_rows.specs.TimerBlocks.{TimerBlock, TimerPlace, timer_data, timer_place_data}
+use Rattle.rom_rows.specs.KeyBlocks.{KeyBlock, KeyPlace, key_data, key_place_data}
+use Rattle.rom_rows.specs.Table.{Block, Place, IsBefore, data_of, place_data_of, calm_pieces}
 use Rattle.rom_rows.specs.Table.Block.{OfFetch, OfArith, OfMemory, OfSprite, OfTimer, OfKey}
 use Rattle.rom_rows.specs.Table.Place.{AtTimer, AtKey, AtSprite}
 
 module _ (x : Program) {k : ℕ} {h h' : Since} (g : Grows h k 0 h') (c : Machine) (calm : is_event (code x) c ≡ false) where
-  pub to_fetch : (l : FetchBlock) → fetch_at x l c (now h) → Within (fetch_time x l (now h)) h' → Ends x (calm_pieces x) c h'
-  to_fetch l at w = Continues calm (Enters (OfFetch l) (subst (λ s. fetch_at x l c s × Within (fetch_time x l s) h') (sym (now_same g)) (at, w), tt))
+  to_block : (l : Block) → IsBefore l → (data_of l).at x c (now h) h'.keys → Within ((data_of l).time x (now h)) h' → Ends x (calm_pieces x) c h'
+  to_block l early at w =
+      Continues calm (Enters l (subst (λ s. (data_of l).at x c s h'.keys × Within ((data_of l).time x s) h') (sym (now_same g)) (at, w), early))
 
-  pub to_arith : (l : ArithBlock) → arith_at x l c (now h) → Within (arith_time x l (now h)) h' → Ends x (calm_pieces x) c h'
-  to_arith l at w = Continues calm (Enters (OfArith l) (subst (λ s. arith_at x l c s × Within (arith_time x l s) h') (sym (now_same g)) (at, w), tt))
+  to_place : (l : Place) → (place_data_of l).at x c (now h) h'.keys → Within ((place_data_of l).time x (now h)) h' → Ends x (calm_pieces x) c h'
+  to_place l at w =
+      Continues calm (Meets l (subst (λ s. (place_data_of l).at x c s h'.keys × Within ((place_data_of l).time x s) h') (sym (now_same g)) (at, w)))
 
-  pub to_memory : (l : MemoryBlock) → memory_at x l c (now h) → Within (memory_time x l (now h)) h' → Ends x (calm_pieces x) c h'
-  to_memory l at w = Continues calm (Enters (OfMemory l) (subst (λ s. memory_at x l c s × Within (memory_time x l s) h') (sym (now_same g)) (at, w), tt))
+  pub to_fetch : (l : FetchBlock) → (fetch_data l).at x c (now h) h'.keys → Within ((fetch_data l).time x (now h)) h' → Ends x (calm_pieces x) c h'
+  to_fetch l = to_block (OfFetch l) tt
 
-  pub to_sprite : (l : SpriteBlock) → IsEarly l → sprite_at x l c (now h) → Within (sprite_time x l (now h)) h' → Ends x (calm_pieces x) c h'
-  to_sprite l early at w = Continues calm (Enters (OfSprite l) (subst (λ s. sprite_at x l c s × Within (sprite_time x l s) h') (sym (now_same g)) (at, w), early))
+  pub to_arith : (l : ArithBlock) → (arith_data l).at x c (now h) h'.keys → Within ((arith_data l).time x (now h)) h' → Ends x (calm_pieces x) c h'
+  to_arith l = to_block (OfArith l) tt
 
-  pub to_sprite_place : (l : SpritePlace) → sprite_place_at x l c (now h) → Within (sprite_place_time x l (now h)) h' → Ends x (calm_pieces x) c h'
-  to_sprite_place l at w = Continues calm (Meets (AtSprite l) (subst (λ s. sprite_place_at x l c s × Within (sprite_place_time x l s) h') (sym (now_same g)) (at, w)))
+  pub to_memory : (l : MemoryBlock) → (memory_data l).at x c (now h) h'.keys → Within ((memory_data l).time x (now h)) h' → Ends x (calm_pieces x) c h'
+  to_memory l = to_block (OfMemory l) tt
 
-  pub to_timer : (l : TimerBlock) → timer_at x l c (now h) → Within (timer_time l) h' → Ends x (calm_pieces x) c h'
-  to_timer l at w = Continues calm (Enters (OfTimer l) ((subst (timer_at x l c) (sym (now_same g)) at, w), tt))
+  pub to_timer : (l : TimerBlock) → (timer_data l).at x c (now h) h'.keys → Within ((timer_data l).time x (now h)) h' → Ends x (calm_pieces x) c h'
+  to_timer l = to_block (OfTimer l) tt
 
-  pub to_timer_place : (l : TimerPlace) → timer_place_at x l c (now h) → Within (timer_place_time l) h' → Ends x (calm_pieces x) c h'
-  to_timer_place l at w = Continues calm (Meets (AtTimer l) (subst (timer_place_at x l c) (sym (now_same g)) at, w))
+  pub to_key : (l : KeyBlock) → (key_data l).at x c (now h) h'.keys → Within ((key_data l).time x (now h)) h' → Ends x (calm_pieces x) c h'
+  to_key l = to_block (OfKey l) tt
 
-  pub to_key : (l : KeyBlock) → key_at x l c (now h) h'.keys → Within (key_time l (now h)) h' → Ends x (calm_pieces x) c h'
-  to_key l at w = Continues calm (Enters (OfKey l) (subst (λ s. key_at x l c s h'.keys × Within (key_time l s) h') (sym (now_same g)) (at, w), tt))
+  pub to_sprite : (l : SpriteBlock) → IsEarly l → (sprite_data l).at x c (now h) h'.keys → Within ((sprite_data l).time x (now h)) h' → Ends x (calm_pieces x) c h'
+  to_sprite l = to_block (OfSprite l)
 
-  pub to_key_place : (l : KeyPlace) → key_place_at x l c (now h) h'.keys → Within (key_place_time l) h' → Ends x (calm_pieces x) c h'
-  to_key_place l at w = Continues calm (Meets (AtKey l) (subst (λ s. key_place_at x l c s h'.keys) (sym (now_same g)) at, w))
+  pub to_sprite_place : (l : SpritePlace) → (sprite_place_data l).at x c (now h) h'.keys → Within ((sprite_place_data l).time x (now h)) h' → Ends x (calm_pieces x) c h'
+  to_sprite_place l = to_place (AtSprite l)
+
+  pub to_timer_place : (l : TimerPlace) → (timer_place_data l).at x c (now h) h'.keys → Within ((timer_place_data l).time x (now h)) h' → Ends x (calm_pieces x) c h'
+  to_timer_place l = to_place (AtTimer l)
+
+  pub to_key_place : (l : KeyPlace) → (key_place_data l).at x c (now h) h'.keys → Within ((key_place_data l).time x (now h)) h' → Ends x (calm_pieces x) c h'
+  to_key_place l = to_place (AtKey l)

@@ -19,10 +19,14 @@ use Rattle.rom_law.specs.Program.{Program, code}
 use Rattle.rom_law.specs.Holding.{places, Holding}
 use Rattle.rom_law.proofs.Later.{holding_after}
 use Rattle.rom_rows.specs.Heads.{high_byte, low_byte, page_of, Entered, Enters}
-use Rattle.rom_rows.specs.SpriteBlocks.{SpritePlace, sprite_place_time, Clearing, cleared_to, Painting, painted, height, lit}
+use Rattle.rom_rows.specs.SpriteBlocks.{sprite_place_data, Clearing, cleared_to, Painting, painted, height, lit}
 use Rattle.rom_rows.specs.SpriteBlocks.SpritePlace.{ClearWait, ClearIdle, DrawWait, DrawIdle}
 use Rattle.rom_rows.specs.TimerBlocks.{Mixes}
+use Rattle.rom_rows.specs.TimerBlocks.TimerPlace.{RandomCount, GetDelay, SetDelayPut, SetSoundPut}
 use Rattle.rom_rows.specs.KeyBlocks.{Skipping, Waiting, Turning, skip_key}
+use Rattle.rom_rows.specs.KeyBlocks.KeyPlace.{SkipTest, KeyTest, KeyHeld}
+use Rattle.rom_rows.specs.Table.{Place, place_data_of}
+use Rattle.rom_rows.specs.Table.Place.{AtTimer, AtKey, AtSprite}
 
 -- ticks leave pc and the opcode
 pub ticks_next : (n : ℕ) (s : Lang) → ticks n (next s) ≡ next (ticks n s)
@@ -62,11 +66,18 @@ pub before_ticks : (e : Edition) (i : Instr) (n : ℕ) (s : Lang) → before_wai
 before_ticks e (Draw x y k) n s = ap (before_wait e (Draw x y k)) (sym (ticks_timed n s))
 before_ticks e _ n s = refl
 
-pub place_time_later : (x : Program) (n : ℕ) (l : SpritePlace) (s : Lang) → sprite_place_time x l (ticks n s) ≡ sprite_place_time x l s
-place_time_later x n ClearWait s = refl
-place_time_later x n ClearIdle s = refl
-place_time_later x n DrawWait s = ap (sprite_place_time x DrawWait) (sym (ticks_timed n s))
-place_time_later x n DrawIdle s = ap (sprite_place_time x DrawIdle) (sym (ticks_timed n s))
+pub place_time_later : (x : Program) (n : ℕ) (l : Place) (s : Lang) → (place_data_of l).time x (ticks n s) ≡ (place_data_of l).time x s
+place_time_later x n (AtSprite DrawWait) s = ap ((sprite_place_data DrawWait).time x) (sym (ticks_timed n s))
+place_time_later x n (AtSprite DrawIdle) s = ap ((sprite_place_data DrawIdle).time x) (sym (ticks_timed n s))
+place_time_later x n (AtSprite ClearWait) s = refl
+place_time_later x n (AtSprite ClearIdle) s = refl
+place_time_later x n (AtTimer RandomCount) s = refl
+place_time_later x n (AtTimer GetDelay) s = refl
+place_time_later x n (AtTimer SetDelayPut) s = refl
+place_time_later x n (AtTimer SetSoundPut) s = refl
+place_time_later x n (AtKey (SkipTest down)) s = refl
+place_time_later x n (AtKey (KeyTest turn)) s = refl
+place_time_later x n (AtKey (KeyHeld turn looks)) s = refl
 
 ticks_shown : (n : ℕ) (d : Pixels) (s : Lang) → ticks n (record (next s) { screen = d }) ≡ record (next (ticks n s)) { screen = d }
 ticks_shown zero d s = refl

@@ -16,3 +16,14 @@ pub mod Ways
 pub mod Font
 pub mod Waited
 pub mod Screens
+pub mod Most
+pub mod Haste
+pub mod Facts
+pub mod FetchFacts
+pub mod ArithFacts
+pub mod MemoryFacts
+pub mod SpriteFacts
+pub mod TimerFacts
+pub mod KeyFacts
+pub mod PlaceFacts
+pub mod Table

@@ -15,155 +15,17 @@ use Rattle.rom_law.proofs.Kept.{RunsBlock, RunsPlace, Sound, block_moves, place_
 use Rattle.rom_rows.specs.Rom.{program_of}
 use Rattle.rom_rows.specs.Heads.{Time, Within}
 use Rattle.rom_rows.specs.Heads.Time.{Exactly, Left, Waited, Met, Seen, Searching, Looking, Freed}
-use Rattle.rom_rows.specs.FetchBlocks.{FetchBlock, fetch_moves}
-use Rattle.rom_rows.specs.FetchBlocks.FetchBlock.{Fetch, Upper, Inside, Outside, Misc, Unknown83, Leave, Stop, Stopped}
-use Rattle.rom_rows.specs.ArithBlocks.ArithBlock.{System, SystemLow, SystemBack, MachineCode, Return, ReturnTake, Empty, JumpTo, Call, CallPut, Full, JumpPlus}
-use Rattle.rom_rows.specs.ArithBlocks.{ArithBlock, arith_moves}
-use Rattle.rom_rows.specs.ArithBlocks.ArithBlock.{Load, Add, SkipEq, SkipNe, SkipSame, SameTest, SkipDiffer, DifferTest, NoSkip as PassesOn, Skip, Unknown81, Arith, Operation, Flag, Unknown82}
-use Rattle.rom_rows.specs.Checks.Answer.{InGame, InFont, Nowhere}
-use Rattle.rom_rows.specs.MemoryBlocks.{MemoryBlock, memory_moves}
-use Rattle.rom_rows.specs.MemoryBlocks.MemoryBlock.{Index, AddIndex, Digit, Check, CheckGame, CheckFont, CheckLow, Answering, Decimal, DecimalFound, Hundreds, HundredsEnd, Tens, TensEnd, Store, StoreFound, StoreByte, StoreEnd, Restore, RestoreFound, RestoreByte, RestoreEnd}
-use Rattle.rom_rows.specs.SpriteBlocks.{SpriteBlock, SpritePlace, sprite_moves, sprite_place_at, sprite_place_time}
-use Rattle.rom_rows.specs.SpriteBlocks.SpriteBlock.{Clear, Wipe, Wipe3, Wipe6, Wiped, Cleared, Draw, DrawCheck, DrawFound, Place, Edge, Fits, Angle, Begin, Row, RowByte, Shift, Shifted, RowRight, RowStore, Ready, Line, LineLeft, LineRight, Drawn}
 use Rattle.rom_rows.specs.SpriteBlocks.SpritePlace.{ClearWait, ClearIdle, DrawWait, DrawIdle}
-use Rattle.rom_rows.specs.TimerBlocks.{TimerBlock, TimerPlace, timer_moves, timer_place_at, timer_place_time}
-use Rattle.rom_rows.specs.TimerBlocks.TimerBlock.{Random, RandomMix, GetDelayPut, SetDelay, SetDelayEnd, SetSound, SetSoundEnd}
 use Rattle.rom_rows.specs.TimerBlocks.TimerPlace.{RandomCount, GetDelay, SetDelayPut, SetSoundPut}
-use Rattle.rom_rows.specs.KeyBlocks.{KeyBlock, KeyPlace, Last, key_moves, key_place_at, key_place_time}
-use Rattle.rom_rows.specs.KeyBlocks.KeyBlock.{KeySkip, KeySkipUp, SkipLatch, NoSkip, Skip as KeyYes, WaitKey, KeyNext, KeyCount, KeyFreed}
+use Rattle.rom_rows.specs.KeyBlocks.{Last}
 use Rattle.rom_rows.specs.KeyBlocks.KeyPlace.{SkipTest, KeyTest, KeyHeld}
-use Rattle.rom_rows.specs.Table.{Block, Place as AnyPlace, Head, At, moves, pieces, calm_pieces, BlockRows, PlaceRows, AwakeRows, TickRows}
-use Rattle.rom_rows.specs.Table.Block.{OfFetch, OfArith, OfMemory, OfSprite, OfTimer, OfKey}
+use Rattle.rom_rows.specs.Table.{Block, Place as AnyPlace, place_data_of, Head, At, moves, pieces, calm_pieces, BlockRows, PlaceRows, AwakeRows, TickRows}
 use Rattle.rom_rows.specs.Table.Place.{AtTimer, AtKey, AtSprite}
 use Rattle.rom_rows.proofs.Calm.{comes_calm, holds_calm}
 use Rattle.rom_rows.proofs.Later.{enters_later, ticks_low, loaded_later, mixes_later, place_time_later, skip_key_later, skipping_later, waiting_later, turning_later, latched_later, counted_later, clearing_later, painting_later}
 
-fetch_some : (l : FetchBlock) → 0 < fetch_moves l
-fetch_some Fetch = omega arith
-fetch_some Upper = omega arith
-fetch_some Inside = omega arith
-fetch_some Outside = omega arith
-fetch_some (Misc i) = omega arith
-fetch_some Unknown83 = omega arith
-fetch_some (Leave i) = omega arith
-fetch_some Stop = omega arith
-fetch_some Stopped = omega arith
-
-arith_some : (l : ArithBlock) → 0 < arith_moves l
-arith_some System = omega arith
-arith_some SystemLow = omega arith
-arith_some SystemBack = omega arith
-arith_some MachineCode = omega arith
-arith_some Return = omega arith
-arith_some ReturnTake = omega arith
-arith_some Empty = omega arith
-arith_some JumpTo = omega arith
-arith_some Call = omega arith
-arith_some CallPut = omega arith
-arith_some Full = omega arith
-arith_some JumpPlus = omega arith
-arith_some Load = omega arith
-arith_some Add = omega arith
-arith_some SkipEq = omega arith
-arith_some SkipNe = omega arith
-arith_some SkipSame = omega arith
-arith_some SameTest = omega arith
-arith_some SkipDiffer = omega arith
-arith_some DifferTest = omega arith
-arith_some (PassesOn i) = omega arith
-arith_some Skip = omega arith
-arith_some Unknown81 = omega arith
-arith_some Arith = omega arith
-arith_some (Operation n) = omega arith
-arith_some Flag = omega arith
-arith_some Unknown82 = omega arith
-
-memory_some : (l : MemoryBlock) → 0 < memory_moves l
-memory_some Index = omega arith
-memory_some AddIndex = omega arith
-memory_some Digit = omega arith
-memory_some (Check c) = omega arith
-memory_some (CheckGame c) = omega arith
-memory_some (CheckFont c) = omega arith
-memory_some (CheckLow c) = omega arith
-memory_some (Answering c answer) = omega arith
-memory_some Decimal = omega arith
-memory_some (DecimalFound InGame) = omega arith
-memory_some (DecimalFound InFont) = omega arith
-memory_some (DecimalFound Nowhere) = omega arith
-memory_some (Hundreds k) = omega arith
-memory_some HundredsEnd = omega arith
-memory_some (Tens k) = omega arith
-memory_some TensEnd = omega arith
-memory_some Store = omega arith
-memory_some (StoreFound InGame) = omega arith
-memory_some (StoreFound InFont) = omega arith
-memory_some (StoreFound Nowhere) = omega arith
-memory_some (StoreByte k) = omega arith
-memory_some StoreEnd = omega arith
-memory_some Restore = omega arith
-memory_some (RestoreFound InGame) = omega arith
-memory_some (RestoreFound InFont) = omega arith
-memory_some (RestoreFound Nowhere) = omega arith
-memory_some (RestoreByte k) = omega arith
-memory_some RestoreEnd = omega arith
-
-sprite_some : (l : SpriteBlock) → 0 < sprite_moves l
-sprite_some Clear = omega arith
-sprite_some (Wipe k) = omega arith
-sprite_some (Wipe3 k) = omega arith
-sprite_some (Wipe6 k) = omega arith
-sprite_some (Wiped k) = omega arith
-sprite_some Cleared = omega arith
-sprite_some Draw = omega arith
-sprite_some DrawCheck = omega arith
-sprite_some (DrawFound InGame) = omega arith
-sprite_some (DrawFound InFont) = omega arith
-sprite_some (DrawFound Nowhere) = omega arith
-sprite_some Place = omega arith
-sprite_some Edge = omega arith
-sprite_some Fits = omega arith
-sprite_some Angle = omega arith
-sprite_some Begin = omega arith
-sprite_some (Row r) = omega arith
-sprite_some (RowByte r) = omega arith
-sprite_some (Shift r j) = omega arith
-sprite_some (Shifted r) = omega arith
-sprite_some (RowRight r) = omega arith
-sprite_some (RowStore r) = omega arith
-sprite_some Ready = omega arith
-sprite_some (Line r) = omega arith
-sprite_some (LineLeft r) = omega arith
-sprite_some (LineRight r) = omega arith
-sprite_some Drawn = omega arith
-
-timer_some : (l : TimerBlock) → 0 < timer_moves l
-timer_some Random = omega arith
-timer_some RandomMix = omega arith
-timer_some GetDelayPut = omega arith
-timer_some SetDelay = omega arith
-timer_some SetDelayEnd = omega arith
-timer_some SetSound = omega arith
-timer_some SetSoundEnd = omega arith
-
-key_some : (l : KeyBlock) → 0 < key_moves l
-key_some KeySkip = omega arith
-key_some KeySkipUp = omega arith
-key_some (SkipLatch down) = omega arith
-key_some (NoSkip down) = omega arith
-key_some (KeyYes down) = omega arith
-key_some WaitKey = omega arith
-key_some (KeyNext turn) = omega arith
-key_some (KeyCount turn) = omega arith
-key_some (KeyFreed turn looks) = omega arith
-
 pub some : (l : Block) → 0 < moves l
-some (OfFetch l) = fetch_some l
-some (OfArith l) = arith_some l
-some (OfMemory l) = memory_some l
-some (OfSprite l) = sprite_some l
-some (OfTimer l) = timer_some l
-some (OfKey l) = key_some l
+some l = omega arith
 
 -- ticks take no main cycles
 -- but for what is said of all ticks so far
@@ -184,69 +46,54 @@ within_later (Searching m turns) h n l w = w
 within_later (Looking turn looks) h n l w = w
 within_later (Freed turn looks) h n l w = w
 
-timer_outlasts : (l : TimerPlace) → outlasts (timer_place_time l) ≡ true
-timer_outlasts RandomCount = refl
-timer_outlasts GetDelay = refl
-timer_outlasts SetDelayPut = refl
-timer_outlasts SetSoundPut = refl
-
-key_outlasts : (l : KeyPlace) → outlasts (key_place_time l) ≡ true
-key_outlasts (SkipTest down) = refl
-key_outlasts (KeyTest turn) = refl
-key_outlasts (KeyHeld turn looks) = refl
-
-sprite_outlasts : (x : Program) (l : SpritePlace) (s : Lang) → outlasts (sprite_place_time x l s) ≡ true
-sprite_outlasts x ClearWait s = refl
-sprite_outlasts x ClearIdle s = refl
-sprite_outlasts x DrawWait s = refl
-sprite_outlasts x DrawIdle s = refl
+place_outlasts : (l : AnyPlace) (x : Program) (s : Lang) → outlasts ((place_data_of l).time x s) ≡ true
+place_outlasts (AtTimer RandomCount) x s = refl
+place_outlasts (AtTimer GetDelay) x s = refl
+place_outlasts (AtTimer SetDelayPut) x s = refl
+place_outlasts (AtTimer SetSoundPut) x s = refl
+place_outlasts (AtKey (SkipTest down)) x s = refl
+place_outlasts (AtKey (KeyTest turn)) x s = refl
+place_outlasts (AtKey (KeyHeld turn looks)) x s = refl
+place_outlasts (AtSprite ClearWait) x s = refl
+place_outlasts (AtSprite ClearIdle) x s = refl
+place_outlasts (AtSprite DrawWait) x s = refl
+place_outlasts (AtSprite DrawIdle) x s = refl
 
 module _ (e : Edition) (rom : List ℕ) where
-  pub later : (l : AnyPlace) (b : Machine) (h : Since) → FitsMachine b → At (program_of e rom) l b h → b.regs.idle ≡ false → (n : ℕ) (c : Machine)
-      → After (code (program_of e rom)).low n b c → At (program_of e rom) l c (after_ticks n h)
-  later (AtTimer l) b h f o i n c k =
-      (subst (timer_place_at (program_of e rom) l c) (ticks_add n h.ticks h.state) (timer_later l o.0), within_later (timer_place_time l) h n (timer_outlasts l) o.1)
-    where
-      timer_later : (l : TimerPlace) → timer_place_at (program_of e rom) l b (now h) → timer_place_at (program_of e rom) l c (ticks n (now h))
-      timer_later RandomCount p = (enters_later (program_of e rom) n k f (now h) _ _ p.0, mixes_later (program_of e rom) n k f (now h) p.1)
-      timer_later GetDelay p = (enters_later (program_of e rom) n k f (now h) _ _ p.0, ticks_low n (now h) ∙ p.1)
-      timer_later SetDelayPut p =
-          (enters_later (program_of e rom) n k f (now h) _ _ p.0, ticks_low n (now h) ∙ p.1, loaded_later (program_of e rom) n k f (now h) p.2)
-      timer_later SetSoundPut p =
-          (enters_later (program_of e rom) n k f (now h) _ _ p.0, ticks_low n (now h) ∙ p.1, loaded_later (program_of e rom) n k f (now h) p.2)
-  later (AtKey l) b h f o i n c k = (
-    subst (λ s. key_place_at (program_of e rom) l c s h.keys) (ticks_add n h.ticks h.state) (key_later l o.0),
-    within_later (key_place_time l) h n (key_outlasts l) o.1,
-  )
-    where
-      key_later : (l : KeyPlace) → key_place_at (program_of e rom) l b (now h) h.keys → key_place_at (program_of e rom) l c (ticks n (now h)) h.keys
-      key_later (SkipTest down) p = (
-        skipping_later (program_of e rom) n k f (now h) down _ p.0,
-        latched_later (program_of e rom) n k f (now h) ∙ p.1 ∙ sym (skip_key_later n
-            (now h)),
-      )
-      key_later (KeyTest turn) p = (turning_later (program_of e rom) n k f (now h) turn _ p.0, latched_later (program_of e rom) n k f (now h) ∙ p.1, p.2)
-      key_later (KeyHeld turn looks) p = (
-        waiting_later (program_of e rom) n k f (now h) _ p.0,
-        latched_later (program_of e rom) n k f (now h) ∙ p.1 ∙ ap (λ y. y % 16) (sym (counted_later (program_of e rom) n k f (now h))),
-        subst (λ y. Last h.keys (y % 16) true) (sym (counted_later (program_of e rom) n k f (now h))) p.2,
-        ap (λ y. y % 16) (counted_later (program_of e rom) n k f (now h)) ∙ p.3,
-      )
-  later (AtSprite l) b h f o i n c k =
-      subst (λ s. sprite_place_at (program_of e rom) l c s × Within (sprite_place_time (program_of e rom) l s) (after_ticks n h)) (ticks_add n h.ticks h.state) (
-        sprite_later l o.0,
-        subst (λ t. Within t (after_ticks n h)) (sym (place_time_later (program_of e rom) n l (now h)))
-            (within_later (sprite_place_time (program_of e rom) l (now h)) h n (sprite_outlasts (program_of e rom) l (now h)) o.1),
-      )
-    where
-      asleep : true ≡ false → ⊥
-      asleep r = cc
+  abbrev x : Program
+  x = program_of e rom
 
-      sprite_later : (l : SpritePlace) → sprite_place_at (program_of e rom) l b (now h) → sprite_place_at (program_of e rom) l c (ticks n (now h))
-      sprite_later ClearWait p = clearing_later (program_of e rom) n k f (now h) _ _ p
-      sprite_later ClearIdle p = absurd (asleep (sym p.1 ∙ i))
-      sprite_later DrawWait p = painting_later (program_of e rom) n k f (now h) at_draw_wait p
-      sprite_later DrawIdle p = absurd (asleep (sym p.1 ∙ i))
+  asleep : true ≡ false → ⊥
+  asleep r = cc
+
+  module _ {b c : Machine} (h : Since) (f : FitsMachine b) (i : b.regs.idle ≡ false) (n : ℕ) (k : After (code x).low n b c) where
+    known_later : (l : AnyPlace) → (place_data_of l).at x b (now h) h.keys → (place_data_of l).at x c (ticks n (now h)) h.keys
+    known_later (AtTimer RandomCount) p = (enters_later x n k f (now h) _ _ p.0, mixes_later x n k f (now h) p.1)
+    known_later (AtTimer GetDelay) p = (enters_later x n k f (now h) _ _ p.0, ticks_low n (now h) ∙ p.1)
+    known_later (AtTimer SetDelayPut) p = (enters_later x n k f (now h) _ _ p.0, ticks_low n (now h) ∙ p.1, loaded_later x n k f (now h) p.2)
+    known_later (AtTimer SetSoundPut) p = (enters_later x n k f (now h) _ _ p.0, ticks_low n (now h) ∙ p.1, loaded_later x n k f (now h) p.2)
+    known_later (AtKey (SkipTest down)) p =
+        (skipping_later x n k f (now h) down _ p.0, latched_later x n k f (now h) ∙ p.1 ∙ sym (skip_key_later n (now h)))
+    known_later (AtKey (KeyTest turn)) p = (turning_later x n k f (now h) turn _ p.0, latched_later x n k f (now h) ∙ p.1, p.2)
+    known_later (AtKey (KeyHeld turn looks)) p = (
+      waiting_later x n k f (now h) _ p.0,
+      latched_later x n k f (now h) ∙ p.1 ∙ ap (λ y. y % 16) (sym (counted_later x n k f (now h))),
+      subst (λ y. Last h.keys (y % 16) true) (sym (counted_later x n k f (now h))) p.2,
+      ap (λ y. y % 16) (counted_later x n k f (now h)) ∙ p.3,
+    )
+    known_later (AtSprite ClearWait) p = clearing_later x n k f (now h) _ _ p
+    known_later (AtSprite ClearIdle) p = absurd (asleep (sym p.1 ∙ i))
+    known_later (AtSprite DrawWait) p = painting_later x n k f (now h) at_draw_wait p
+    known_later (AtSprite DrawIdle) p = absurd (asleep (sym p.1 ∙ i))
+
+  pub later : (l : AnyPlace) (b : Machine) (h : Since) → FitsMachine b → At x l b h → b.regs.idle ≡ false → (n : ℕ) (c : Machine)
+      → After (code x).low n b c → At x l c (after_ticks n h)
+  later l b h f o i n c k =
+      subst (λ s. (place_data_of l).at x c s h.keys × Within ((place_data_of l).time x s) (after_ticks n h)) (ticks_add n h.ticks h.state) (
+        known_later h f i n k l o.0,
+        subst (λ t. Within t (after_ticks n h)) (sym (place_time_later x n l (now h)))
+            (within_later ((place_data_of l).time x (now h)) h n (place_outlasts l x (now h)) o.1),
+      )
 
 module _ (e : Edition) {rom last : List ℕ} (is : rom ≡ last) (fits : FitsRom rom) where
   pub sound : Sound (program_of e rom) (pieces (program_of e rom))

@@ -13,16 +13,16 @@ use Rattle.rom_law.proofs.Kept.{RunsBlock, Sound}
 use Rattle.rom_law.proofs.Steps.{now_same}
 use Rattle.rom_rows.specs.Rom.{program_of}
 use Rattle.rom_rows.specs.Heads.{Within}
-use Rattle.rom_rows.specs.SpriteBlocks.{SpriteBlock, IsWaited, sprite_at, sprite_time}
+use Rattle.rom_rows.specs.SpriteBlocks.{SpriteBlock, IsWaited, sprite_data}
 use Rattle.rom_rows.specs.Table.{pieces, waited_pieces}
 use Rattle.rom_rows.specs.Table.Block.{OfSprite}
 use Rattle.rom_rows.proofs.Sounds.{some}
 
 -- a block behind a wait follows at the end of one
 pub to_waited : (x : Program) {k : ℕ} {h h' : Since} (g : Grows h k 0 h') (c : Machine) (calm : is_event (code x) c ≡ false) (l : SpriteBlock)
-    (w : IsWaited l) → sprite_at x l c (now h) → Within (sprite_time x l (now h)) h' → Ends x (waited_pieces x) c h'
+    (w : IsWaited l) → (sprite_data l).at x c (now h) h'.keys → Within ((sprite_data l).time x (now h)) h' → Ends x (waited_pieces x) c h'
 to_waited x {h' = h'} g c calm l w at t =
-    Continues calm (Enters (l, w) (subst (λ s. sprite_at x l c s × Within (sprite_time x l s) h') (sym (now_same g)) (at, t)))
+    Continues calm (Enters (l, w) (subst (λ s. (sprite_data l).at x c s h'.keys × Within ((sprite_data l).time x s) h') (sym (now_same g)) (at, t)))
 
 pub joined : (x : Program) {l : (waited_pieces x).Block} {b : Machine} {h : Since} → InBlock x (waited_pieces x) l b h → InBlock x (pieces x) (OfSprite l.0) b h
 joined x r = record { start = r.start; since = r.since; k = r.k; n = r.n; inside = r.inside; grows = r.grows; fits = r.fits; head = r.head; after = r.after }

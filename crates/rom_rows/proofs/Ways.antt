@@ -10,7 +10,7 @@ use Rattle.rom_law.specs.Holding.{places, Holding}
 use Rattle.rom_law.specs.Rows.{Since, Grows, Pieces, Ends}
 use Rattle.rom_law.proofs.Kept.{RunsBlock}
 use Rattle.rom_rows.specs.Rom.{program_of}
-use Rattle.rom_rows.specs.SpriteBlocks.{SpriteBlock, IsWaited, sprite_moves}
+use Rattle.rom_rows.specs.SpriteBlocks.{SpriteBlock, IsWaited}
 use Rattle.rom_rows.specs.Table.{Block, moves, calm_top, calm_pieces, waited_pieces}
 use Rattle.rom_rows.specs.Table.Block.{OfSprite}
 use Rattle.rom_rows.proofs.Entry.{ready}
@@ -76,15 +76,15 @@ forks {e = e} {rom = rom} l o d at c v target other good is on off = forks_in (c
 
 -- and for one behind a wait
 pub straight_on : {e : Edition} {rom : List ℕ} {b : Machine} {h : Since} {s : Lang} (l : SpriteBlock) (w : IsWaited l)
-    → Holding (program_of e rom) (places b) s → (d : Machine) → b ≡ d → (c : Machine) → AllGood (code (program_of e rom)) None (sprite_moves l) d
-    → quicks (code (program_of e rom)) (sprite_moves l) d ≡ c → Behind (program_of e rom) (waited_pieces (program_of e rom)) (l, w) h c
+    → Holding (program_of e rom) (places b) s → (d : Machine) → b ≡ d → (c : Machine) → AllGood (code (program_of e rom)) None (moves (OfSprite l)) d
+    → quicks (code (program_of e rom)) (moves (OfSprite l)) d ≡ c → Behind (program_of e rom) (waited_pieces (program_of e rom)) (l, w) h c
     → RunsBlock (program_of e rom) (waited_pieces (program_of e rom)) (l, w) b h
 straight_on {e = e} {rom = rom} l w o d at c good is ends = straight_in (waited_pieces (program_of e rom)) (l, w) (some (OfSprite l)) o d at c good is ends
 
 pub forks_on : {e : Edition} {rom : List ℕ} {b : Machine} {h : Since} {s : Lang} (l : SpriteBlock) (w : IsWaited l)
     → Holding (program_of e rom) (places b) s → (d : Machine) → b ≡ d → (c : Word → Machine) (v : Bool) (target other : ℕ)
-    → AllGood (code (program_of e rom)) None (sprite_moves l) d
-    → quicks (code (program_of e rom)) (sprite_moves l) d ≡ c (cond v (word_of target) (word_of other))
+    → AllGood (code (program_of e rom)) None (moves (OfSprite l)) d
+    → quicks (code (program_of e rom)) (moves (OfSprite l)) d ≡ c (cond v (word_of target) (word_of other))
     → (v ≡ true → Behind (program_of e rom) (waited_pieces (program_of e rom)) (l, w) h (c (word_of target)))
     → (v ≡ false → Behind (program_of e rom) (waited_pieces (program_of e rom)) (l, w) h (c (word_of other)))
     → RunsBlock (program_of e rom) (waited_pieces (program_of e rom)) (l, w) b h

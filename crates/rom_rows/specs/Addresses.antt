@@ -1,5 +1,5 @@
 -- At which addresses the instructions of blocks begin, and that those of a part of the ROM all do in some block.
-use Rattle.std.specs.Prelude.{◌≡◌, ℕ, zero, suc, ◌+◌, ◌-◌, ◌<◌, not, if◌then◌else◌, nat_eq, nat_le, List, [], ◌∷◌, ◌++◌, length, slice_index}
+use Rattle.std.specs.Prelude.{◌≡◌, ℕ, zero, suc, ◌+◌, ◌-◌, ◌<◌, not, if◌then◌else◌, nat_eq, nat_le, List, [], ◌∷◌, ◌++◌, length, slice_index, true}
 use Rattle.std.specs.List.{filter, list_any}
 use Rattle.machine.specs.Instruction.{at}
 use Rattle.machine.specs.Board.{Machine}
@@ -9,17 +9,18 @@ use Rattle.chip8_image.specs.declared.image.TheConstants.{IMAGE}
 use Rattle.chip8_image.specs.declared.map.Area.{Area}
 use Rattle.chip8_image.specs.declared.parts.Part.{Part}
 use Rattle.chip8_image.specs.Labels.{at_boot, at_halt, at_resume}
-use Rattle.chip8_image.specs.Parts.{areas_of}
+use Rattle.chip8_image.specs.Parts.{areas_of, is_part}
 use Rattle.rom_law.specs.Program.{Program}
 use Rattle.rom_law.specs.Rows.{Since, InBlock}
-use Rattle.rom_rows.specs.Table.{Block, pieces}
+use Rattle.rom_rows.specs.Blocks.{addresses}
+use Rattle.rom_rows.specs.Table.{Block, Place, data_of, place_data_of, part_of_block, part_of_place, pieces}
 
--- in the rows of a block the program counter is in turn at these addresses
-abbrev pub RunsAt : Program → Block → List ℕ → Type 0
-RunsAt x l addresses =
+-- in the rows of a block the program counter is in turn at its addresses
+abbrev pub RunsAt : Program → Block → Type 0
+RunsAt x l =
     (b : Machine) (h : Since)
     → (r : InBlock x (pieces x) l b h)
-    → at b.regs b.regs.p ≡ slice_index addresses r.k
+    → at b.regs b.regs.p ≡ slice_index (addresses (data_of l)) r.k
 
 -- The addresses of a straight piece of code at which an instruction begins: the first one, and each that lies past the instruction
 -- before. The editions have the same instructions at the same addresses.
@@ -40,16 +41,27 @@ without_blocks = at_boot ∷ at_halt ∷ at_resume ∷ []
 abbrev pub areas_with_blocks : Part → List Area
 areas_with_blocks p = filter (λ a. not (list_any (nat_eq a.first) without_blocks)) (areas_of p)
 
--- an address is that of some instruction of some block, where blocks have so many instructions at these addresses
-pub record IsIn (B : Type 0) (moves : B → ℕ) (addresses : B → List ℕ) (a : ℕ) : Type 0 where
-  pub block : B
-  pub k : ℕ
-  pub inside : k < moves block
-  pub is : slice_index (addresses block) k ≡ a
+-- a block or a place, its part, and where its instructions begin
+pub data Piece : Type 0 where
+  OfBlock : (l : Block) → Piece
+  OfPlace : (l : Place) → Piece
 
--- every instruction of the part's code that has blocks is in some block
-abbrev pub Covers : (B : Type 0) → (B → ℕ) → (B → List ℕ) → Part → Type 0
-Covers B moves addresses p =
-    (i : ℕ)
-    → i < length (begins (areas_with_blocks p))
-    → IsIn B moves addresses (slice_index (begins (areas_with_blocks p)) i)
+abbrev pub part_of_piece : Piece → Part
+part_of_piece (OfBlock l) = part_of_block l
+part_of_piece (OfPlace l) = part_of_place l
+
+abbrev pub addresses_of : Piece → List ℕ
+addresses_of (OfBlock l) = addresses (data_of l)
+addresses_of (OfPlace l) = (place_data_of l).address ∷ []
+
+-- an address is that of some instruction of some block or place of the part
+pub record IsIn (p : Part) (a : ℕ) : Type 0 where
+  pub piece : Piece
+  pub own : is_part p (part_of_piece piece) ≡ true
+  pub k : ℕ
+  pub inside : k < length (addresses_of piece)
+  pub is : slice_index (addresses_of piece) k ≡ a
+
+-- every instruction of the part's code that has blocks is
+abbrev pub Covers : Part → Type 0
+Covers p = (i : ℕ) → i < length (begins (areas_with_blocks p)) → IsIn p (slice_index (begins (areas_with_blocks p)) i)

@@ -1,5 +1,5 @@
 -- The blocks of 0MMM, of jumps and calls, of loads, of skips and of 8XYN.
-use Rattle.std.specs.Prelude.{◌≡◌, ℕ, suc, ◌+◌, ◌*◌, ◌%◌, ◌<◌, Bool, true, false, List, [], ◌∷◌, ◌++◌, length, slice_index, Some}
+use Rattle.std.specs.Prelude.{◌≡◌, ℕ, ◌+◌, ◌*◌, ◌%◌, ◌<◌, Bool, true, false, List, [], ◌∷◌, ◌++◌, length, slice_index, take, Some}
 use Rattle.machine.specs.Board.{Machine}
 use Rattle.chip8_lang.specs.declared.instr.Instr.{Instr}
 use Rattle.chip8_lang.specs.declared.instr.Instr.TheVariants.{SkipEq as IsSkipEq, SkipNe as IsSkipNe, SkipSame as IsSkipSame, SkipDiffer as IsSkipDiffer, Or, And, Xor, Sum, Sub, Right, SubN, Left}
@@ -9,6 +9,7 @@ use Rattle.chip8_lang.specs.Step.{skip_if, set_with_flag, step}
 use Rattle.chip8_lang.specs.Step.KeyInput.{Nothing}
 use Rattle.chip8_image.specs.Labels.{at_system, at_system_low, at_system_back, at_machine, at_return, at_return_take, at_empty, at_jump, at_call, at_call_put, at_full, at_jump_plus, at_load, at_add, at_skip_eq, at_skip_eq_no, at_skip_ne, at_skip_ne_no, at_skip_same, at_skip_same_test, at_skip_same_no, at_skip_differ, at_differ_test, at_differ_no, at_skip, at_unknown81, at_arith, at_slot0, at_copy, at_vx_or, at_vx_and, at_vx_xor, at_sum, at_less, at_right, at_from, at_left, at_no_flag, at_flag, at_unknown82}
 use Rattle.rom_law.specs.Program.{Program}
+use Rattle.rom_rows.specs.Blocks.{BlockData, block, block_over}
 use Rattle.rom_rows.specs.Heads.{Time, to_stop, to_dispatch, from, high_byte, low_byte, Entered, Enters}
 use Rattle.rom_rows.specs.Heads.Time.{Exactly, Left}
 
@@ -86,83 +87,6 @@ pub record Ending (x : Program) (a : ℕ) (z : Lang) (b : Machine) (s : Lang) : 
   pub shared : has_shared_end (instr_at s) ≡ true
   pub makes : step x.edition Nothing s ≡ z
 
-abbrev pub arith_at : Program → ArithBlock → Machine → Lang → Type 0
-arith_at x System b s = Enters x at_system 0 b s
-arith_at x SystemLow b s = Entered x at_system_low b s × (high_byte s ≡ 0)
-arith_at x SystemBack b s = Entered x at_system_back b s × (high_byte s ≡ 0) × (low_byte s ≡ 0xe0 → ⊥)
-arith_at x MachineCode b s = Entered x at_machine b s × (x.stop_of s ≡ Some MachineCall)
-arith_at x Return b s = Entered x at_return b s × (high_byte s ≡ 0) × (low_byte s ≡ 0xee)
-arith_at x ReturnTake b s = Entered x at_return_take b s × (high_byte s ≡ 0) × (low_byte s ≡ 0xee) × (0 < length s.stack)
-arith_at x Empty b s = Entered x at_empty b s × (x.stop_of s ≡ Some StackEmpty)
-arith_at x JumpTo b s = Enters x at_jump 1 b s
-arith_at x Call b s = Enters x at_call 2 b s
-arith_at x CallPut b s = Enters x at_call_put 2 b s × (length s.stack < 12)
-arith_at x Full b s = Entered x at_full b s × (x.stop_of s ≡ Some StackFull)
-arith_at x JumpPlus b s = Enters x at_jump_plus 11 b s
-arith_at x Load b s = Enters x at_load 6 b s
-arith_at x Add b s = Enters x at_add 7 b s
-arith_at x SkipEq b s = Enters x at_skip_eq 3 b s
-arith_at x SkipNe b s = Enters x at_skip_ne 4 b s
-arith_at x SkipSame b s = Enters x at_skip_same 5 b s
-arith_at x SameTest b s = Enters x at_skip_same_test 5 b s × (low_byte s % 16 ≡ 0)
-arith_at x SkipDiffer b s = Enters x at_skip_differ 9 b s
-arith_at x DifferTest b s = Enters x at_differ_test 9 b s × (low_byte s % 16 ≡ 0)
-arith_at x (NoSkip i) b s = Ending x (slice_index no_skip_labels i) (skip_if false s) b s × (i < 4)
-arith_at x Skip b s = Ending x at_skip (skip_if true s) b s
-arith_at x Unknown81 b s = Entered x at_unknown81 b s × (x.stop_of s ≡ Some Unknown)
-arith_at x Arith b s = Enters x at_arith 8 b s
-arith_at x (Operation n) b s = Enters x (at_slot0 + 2 * n) 8 b s × (low_byte s % 16 ≡ n) × (b.regs.x ≡ 6)
-arith_at x Flag b s = Ending x at_flag (set_with_flag (high_byte s % 16) b.regs.d b.regs.df s) b s
-arith_at x Unknown82 b s = Entered x at_unknown82 b s × (x.stop_of s ≡ Some Unknown)
-
-abbrev pub arith_moves : ArithBlock → ℕ
-arith_moves System = 2
-arith_moves SystemLow = 3
-arith_moves SystemBack = 3
-arith_moves MachineCode = 2
-arith_moves Return = 3
-arith_moves ReturnTake = 12
-arith_moves Empty = 2
-arith_moves JumpTo = 6
-arith_moves Call = 3
-arith_moves CallPut = 11
-arith_moves Full = 2
-arith_moves JumpPlus = 13
-arith_moves Load = 3
-arith_moves Add = 5
-arith_moves SkipEq = 4
-arith_moves SkipNe = 4
-arith_moves SkipSame = 3
-arith_moves SameTest = 4
-arith_moves SkipDiffer = 3
-arith_moves DifferTest = 4
-arith_moves (NoSkip i) = 1
-arith_moves Skip = 3
-arith_moves Unknown81 = 2
-arith_moves Arith = 6
-arith_moves (Operation n) = suc (slice_index operation_lengths n)
-arith_moves Flag = 9
-arith_moves Unknown82 = 2
-
-abbrev pub arith_time : Program → ArithBlock → Lang → Time
-arith_time x SystemLow s = Exactly 84
-arith_time x SystemBack s = Exactly 90
-arith_time x MachineCode s = Left 26 (to_stop x s)
-arith_time x Return s = Exactly 96
-arith_time x ReturnTake s = Exactly 102
-arith_time x Empty s = Left 26 (to_stop x s)
-arith_time x CallPut s = Exactly 86
-arith_time x Full s = Left 26 (to_stop x s)
-arith_time x SameTest s = Exactly 86
-arith_time x DifferTest s = Exactly 86
-arith_time x (NoSkip i) s = Left 2 (to_dispatch x s)
-arith_time x Skip s = Left 6 (to_dispatch x s)
-arith_time x Unknown81 s = Left 26 (to_stop x s)
-arith_time x (Operation n) s = Exactly 92
-arith_time x Flag s = Left 18 (to_dispatch x s)
-arith_time x Unknown82 s = Left 26 (to_stop x s)
-arith_time x _ s = Exactly 80
-
 -- where the code of each of 8XY0 to 8XYF begins
 abbrev pub operation_labels : List ℕ
 operation_labels =
@@ -170,32 +94,42 @@ operation_labels =
     at_unknown82 ∷ at_unknown82 ∷ at_unknown82 ∷ at_unknown82 ∷ at_unknown82 ∷ at_unknown82 ∷ at_left ∷ at_unknown82 ∷
     []
 
--- where a block's instructions begin
-abbrev pub arith_addresses : ArithBlock → List ℕ
-arith_addresses System = from at_system (0 ∷ 1 ∷ [])
-arith_addresses SystemLow = from at_system_low (0 ∷ 1 ∷ 3 ∷ [])
-arith_addresses SystemBack = from at_system_back (0 ∷ 1 ∷ 3 ∷ [])
-arith_addresses MachineCode = from at_machine (0 ∷ 2 ∷ [])
-arith_addresses Return = from at_return (0 ∷ 1 ∷ 3 ∷ [])
-arith_addresses ReturnTake = from at_return_take (0 ∷ 1 ∷ 2 ∷ 3 ∷ 4 ∷ 5 ∷ 6 ∷ 7 ∷ 8 ∷ 9 ∷ 10 ∷ 11 ∷ [])
-arith_addresses Empty = from at_empty (0 ∷ 2 ∷ [])
-arith_addresses JumpTo = from at_jump (0 ∷ 1 ∷ 3 ∷ 4 ∷ 5 ∷ 6 ∷ [])
-arith_addresses Call = from at_call (0 ∷ 1 ∷ 3 ∷ [])
-arith_addresses CallPut = from at_call_put (0 ∷ 1 ∷ 2 ∷ 3 ∷ 4 ∷ 5 ∷ 6 ∷ 8 ∷ 9 ∷ 10 ∷ 11 ∷ [])
-arith_addresses Full = from at_full (0 ∷ 2 ∷ [])
-arith_addresses JumpPlus = from at_jump_plus (0 ∷ 2 ∷ 3 ∷ 5 ∷ 6 ∷ 7 ∷ 8 ∷ 9 ∷ 10 ∷ 11 ∷ 13 ∷ 15 ∷ 16 ∷ [])
-arith_addresses Load = from at_load (0 ∷ 1 ∷ 2 ∷ [])
-arith_addresses Add = from at_add (0 ∷ 1 ∷ 2 ∷ 3 ∷ 4 ∷ [])
-arith_addresses SkipEq = from at_skip_eq (0 ∷ 1 ∷ 2 ∷ 3 ∷ [])
-arith_addresses SkipNe = from at_skip_ne (0 ∷ 1 ∷ 2 ∷ 3 ∷ [])
-arith_addresses SkipSame = from at_skip_same (0 ∷ 1 ∷ 3 ∷ [])
-arith_addresses SameTest = from at_skip_same_test (0 ∷ 1 ∷ 2 ∷ 3 ∷ [])
-arith_addresses SkipDiffer = from at_skip_differ (0 ∷ 1 ∷ 3 ∷ [])
-arith_addresses DifferTest = from at_differ_test (0 ∷ 1 ∷ 2 ∷ 3 ∷ [])
-arith_addresses (NoSkip i) = slice_index no_skip_labels i ∷ []
-arith_addresses Skip = from at_skip (0 ∷ 1 ∷ 2 ∷ [])
-arith_addresses Unknown81 = from at_unknown81 (0 ∷ 2 ∷ [])
-arith_addresses Arith = from at_arith (0 ∷ 1 ∷ 2 ∷ 4 ∷ 5 ∷ 7 ∷ [])
-arith_addresses (Operation n) = (at_slot0 + 2 * n) ∷ from (slice_index operation_labels n) (0 ∷ 1 ∷ 2 ∷ []) ++ at_no_flag ∷ []
-arith_addresses Flag = from at_flag (0 ∷ 1 ∷ 3 ∷ 4 ∷ 6 ∷ 7 ∷ 9 ∷ 10 ∷ 11 ∷ [])
-arith_addresses Unknown82 = from at_unknown82 (0 ∷ 2 ∷ [])
+abbrev pub arith_data : ArithBlock → BlockData
+arith_data System = block (λ x b s sets. Enters x at_system 0 b s) (λ x s. Exactly 80) at_system (1 ∷ [])
+arith_data SystemLow = block (λ x b s sets. Entered x at_system_low b s × (high_byte s ≡ 0)) (λ x s. Exactly 84) at_system_low (1 ∷ 3 ∷ [])
+arith_data SystemBack =
+    block (λ x b s sets. Entered x at_system_back b s × (high_byte s ≡ 0) × (low_byte s ≡ 0xe0 → ⊥)) (λ x s. Exactly 90) at_system_back (1 ∷ 3 ∷ [])
+arith_data MachineCode = block (λ x b s sets. Entered x at_machine b s × (x.stop_of s ≡ Some MachineCall)) (λ x s. Left 26 (to_stop x s)) at_machine (2 ∷ [])
+arith_data Return = block (λ x b s sets. Entered x at_return b s × (high_byte s ≡ 0) × (low_byte s ≡ 0xee)) (λ x s. Exactly 96) at_return (1 ∷ 3 ∷ [])
+arith_data ReturnTake =
+    block (λ x b s sets. Entered x at_return_take b s × (high_byte s ≡ 0) × (low_byte s ≡ 0xee) × (0 < length s.stack)) (λ x s. Exactly 102)
+    at_return_take (1 ∷ 2 ∷ 3 ∷ 4 ∷ 5 ∷ 6 ∷ 7 ∷ 8 ∷ 9 ∷ 10 ∷ 11 ∷ [])
+arith_data Empty = block (λ x b s sets. Entered x at_empty b s × (x.stop_of s ≡ Some StackEmpty)) (λ x s. Left 26 (to_stop x s)) at_empty (2 ∷ [])
+arith_data JumpTo = block (λ x b s sets. Enters x at_jump 1 b s) (λ x s. Exactly 80) at_jump (1 ∷ 3 ∷ 4 ∷ 5 ∷ 6 ∷ [])
+arith_data Call = block (λ x b s sets. Enters x at_call 2 b s) (λ x s. Exactly 80) at_call (1 ∷ 3 ∷ [])
+arith_data CallPut =
+    block (λ x b s sets. Enters x at_call_put 2 b s × (length s.stack < 12)) (λ x s. Exactly 86) at_call_put (1 ∷ 2 ∷ 3 ∷ 4 ∷ 5 ∷ 6 ∷ 8 ∷ 9 ∷ 10 ∷ 11 ∷ [])
+arith_data Full = block (λ x b s sets. Entered x at_full b s × (x.stop_of s ≡ Some StackFull)) (λ x s. Left 26 (to_stop x s)) at_full (2 ∷ [])
+arith_data JumpPlus =
+    block (λ x b s sets. Enters x at_jump_plus 11 b s) (λ x s. Exactly 80) at_jump_plus (2 ∷ 3 ∷ 5 ∷ 6 ∷ 7 ∷ 8 ∷ 9 ∷ 10 ∷ 11 ∷ 13 ∷ 15 ∷ 16 ∷ [])
+arith_data Load = block (λ x b s sets. Enters x at_load 6 b s) (λ x s. Exactly 80) at_load (1 ∷ 2 ∷ [])
+arith_data Add = block (λ x b s sets. Enters x at_add 7 b s) (λ x s. Exactly 80) at_add (1 ∷ 2 ∷ 3 ∷ 4 ∷ [])
+arith_data SkipEq = block (λ x b s sets. Enters x at_skip_eq 3 b s) (λ x s. Exactly 80) at_skip_eq (1 ∷ 2 ∷ 3 ∷ [])
+arith_data SkipNe = block (λ x b s sets. Enters x at_skip_ne 4 b s) (λ x s. Exactly 80) at_skip_ne (1 ∷ 2 ∷ 3 ∷ [])
+arith_data SkipSame = block (λ x b s sets. Enters x at_skip_same 5 b s) (λ x s. Exactly 80) at_skip_same (1 ∷ 3 ∷ [])
+arith_data SameTest = block (λ x b s sets. Enters x at_skip_same_test 5 b s × (low_byte s % 16 ≡ 0)) (λ x s. Exactly 86) at_skip_same_test (1 ∷ 2 ∷ 3 ∷ [])
+arith_data SkipDiffer = block (λ x b s sets. Enters x at_skip_differ 9 b s) (λ x s. Exactly 80) at_skip_differ (1 ∷ 3 ∷ [])
+arith_data DifferTest = block (λ x b s sets. Enters x at_differ_test 9 b s × (low_byte s % 16 ≡ 0)) (λ x s. Exactly 86) at_differ_test (1 ∷ 2 ∷ 3 ∷ [])
+arith_data (NoSkip i) =
+    block (λ x b s sets. Ending x (slice_index no_skip_labels i) (skip_if false s) b s × (i < 4)) (λ x s. Left 2 (to_dispatch x s))
+    (slice_index no_skip_labels i) []
+arith_data Skip = block (λ x b s sets. Ending x at_skip (skip_if true s) b s) (λ x s. Left 6 (to_dispatch x s)) at_skip (1 ∷ 2 ∷ [])
+arith_data Unknown81 = block (λ x b s sets. Entered x at_unknown81 b s × (x.stop_of s ≡ Some Unknown)) (λ x s. Left 26 (to_stop x s)) at_unknown81 (2 ∷ [])
+arith_data Arith = block (λ x b s sets. Enters x at_arith 8 b s) (λ x s. Exactly 80) at_arith (1 ∷ 2 ∷ 4 ∷ 5 ∷ 7 ∷ [])
+arith_data (Operation n) =
+    block_over (λ x b s sets. Enters x (at_slot0 + 2 * n) 8 b s × (low_byte s % 16 ≡ n) × (b.regs.x ≡ 6)) (λ x s. Exactly 92)
+    (at_slot0 + 2 * n) (take (slice_index operation_lengths n) (from (slice_index operation_labels n) (0 ∷ 1 ∷ 2 ∷ []) ++ at_no_flag ∷ []))
+arith_data Flag =
+    block (λ x b s sets. Ending x at_flag (set_with_flag (high_byte s % 16) b.regs.d b.regs.df s) b s) (λ x s. Left 18 (to_dispatch x s))
+    at_flag (1 ∷ 3 ∷ 4 ∷ 6 ∷ 7 ∷ 9 ∷ 10 ∷ 11 ∷ [])
+arith_data Unknown82 = block (λ x b s sets. Entered x at_unknown82 b s × (x.stop_of s ≡ Some Unknown)) (λ x s. Left 26 (to_stop x s)) at_unknown82 (2 ∷ [])

@@ -9,6 +9,7 @@ use Rattle.chip8_lang.specs.Step.{next}
 use Rattle.chip8_image.specs.Labels.{at_fetch, at_key_skip, at_key_skip_up, at_skip_up, at_skip_up_test, at_skip_up_no, at_skip_down, at_skip_down_test, at_skip_down_no, at_key_yes, at_wait_key, at_key_next, at_key_test, at_key_count, at_key_held, at_key_freed}
 use Rattle.rom_law.specs.Program.{Program}
 use Rattle.rom_law.specs.Holding.{places, Holding}
+use Rattle.rom_rows.specs.Blocks.{BlockData, PlaceData, block, place}
 use Rattle.rom_rows.specs.Heads.{Time, from, high_byte, low_byte, page_of, Enters}
 use Rattle.rom_rows.specs.Heads.Time.{Exactly, Seen, Searching, Looking, Freed}
 
@@ -105,68 +106,40 @@ abbrev pub no_skip_label : Bool → ℕ
 no_skip_label true = at_skip_down_no
 no_skip_label false = at_skip_up_no
 
-abbrev pub key_at : Program → KeyBlock → Machine → Lang → List Keys → Type 0
-key_at x KeySkip b s sets = Enters x at_key_skip 14 b s
-key_at x KeySkipUp b s sets = Enters x at_key_skip_up 14 b s × (b.regs.x ≡ 6) × (low_byte s ≡ skip_code true → ⊥)
-key_at x (SkipLatch down) b s sets = Enters x (skip_label down) 14 b s × (b.regs.x ≡ 6) × (low_byte s ≡ skip_code down)
-key_at x (NoSkip down) b s sets = Skipping x down (no_skip_label down) b s × SomeTime sets (skip_key s) (not down)
-key_at x (Skip down) b s sets = Skipping x down at_key_yes b s × SomeTime sets (skip_key s) down
-key_at x WaitKey b s sets = Enters x at_wait_key 15 b s × (low_byte s ≡ 0x0a)
-key_at x (KeyNext turn) b s sets = Turning x turn at_key_next b s × Turned turn 0 sets
-key_at x (KeyCount turn) b s sets = Turning x turn at_key_count b s × Turned turn 5 sets × Last sets (turn % 16) false
-key_at x (KeyFreed turn looks) b s sets = Waiting x at_key_freed b s × JustUp sets (b.regs.r.re.lo % 16) × (b.regs.r.re.lo % 16 ≡ turn % 16)
-
-abbrev pub key_place_at : Program → KeyPlace → Machine → Lang → List Keys → Type 0
-key_place_at x (SkipTest down) b s sets = Skipping x down (skip_test_label down) b s × (b.key ≡ skip_key s)
-key_place_at x (KeyTest turn) b s sets = Turning x turn at_key_test b s × (b.key ≡ turn % 16) × Turned turn 4 sets
-key_place_at x (KeyHeld turn looks) b s sets =
-    Waiting x at_key_held b s × (b.key ≡ b.regs.r.re.lo % 16) × Last sets (b.regs.r.re.lo % 16) true × (b.regs.r.re.lo % 16 ≡ turn % 16)
-
-abbrev pub key_moves : KeyBlock → ℕ
-key_moves KeySkip = 4
-key_moves KeySkipUp = 3
-key_moves (SkipLatch down) = 1
-key_moves (NoSkip down) = 1
-key_moves (Skip down) = 3
-key_moves WaitKey = 7
-key_moves (KeyNext turn) = 4
-key_moves (KeyCount turn) = 2
-key_moves (KeyFreed turn looks) = 4
-
 -- the main cycles before a skip
 abbrev pub skip_time : Bool → ℕ
 skip_time true = 88
 skip_time false = 94
 
-abbrev pub key_time : KeyBlock → Lang → Time
-key_time KeySkip s = Exactly 80
-key_time KeySkipUp s = Exactly 88
-key_time (SkipLatch down) s = Exactly (skip_time down)
-key_time (NoSkip down) s = Seen (skip_time down + 4) (skip_time down + 2) (skip_key s) (not down)
-key_time (Skip down) s = Seen (skip_time down + 4) (skip_time down + 2) (skip_key s) down
-key_time WaitKey s = Exactly 92
-key_time (KeyNext turn) s = Searching (106 + 14 * turn) turn
-key_time (KeyCount turn) s = Searching (116 + 14 * turn) (suc turn)
-key_time (KeyFreed turn looks) s = Freed turn looks
+abbrev pub key_data : KeyBlock → BlockData
+key_data KeySkip = block (λ x b s sets. Enters x at_key_skip 14 b s) (λ x s. Exactly 80) at_key_skip (1 ∷ 2 ∷ 4 ∷ [])
+key_data KeySkipUp =
+    block (λ x b s sets. Enters x at_key_skip_up 14 b s × (b.regs.x ≡ 6) × (low_byte s ≡ skip_code true → ⊥)) (λ x s. Exactly 88) at_key_skip_up (1 ∷ 3 ∷ [])
+key_data (SkipLatch down) =
+    block (λ x b s sets. Enters x (skip_label down) 14 b s × (b.regs.x ≡ 6) × (low_byte s ≡ skip_code down)) (λ x s. Exactly (skip_time down))
+    (skip_label down) []
+key_data (NoSkip down) =
+    block (λ x b s sets. Skipping x down (no_skip_label down) b s × SomeTime sets (skip_key s) (not down))
+    (λ x s. Seen (skip_time down + 4) (skip_time down + 2) (skip_key s) (not down)) (no_skip_label down) []
+key_data (Skip down) =
+    block (λ x b s sets. Skipping x down at_key_yes b s × SomeTime sets (skip_key s) down)
+    (λ x s. Seen (skip_time down + 4) (skip_time down + 2) (skip_key s) down) at_key_yes (1 ∷ 2 ∷ [])
+key_data WaitKey = block (λ x b s sets. Enters x at_wait_key 15 b s × (low_byte s ≡ 0x0a)) (λ x s. Exactly 92) at_wait_key (2 ∷ 3 ∷ 5 ∷ 6 ∷ 7 ∷ 9 ∷ [])
+key_data (KeyNext turn) =
+    block (λ x b s sets. Turning x turn at_key_next b s × Turned turn 0 sets) (λ x s. Searching (106 + 14 * turn) turn) at_key_next (1 ∷ 2 ∷ 3 ∷ [])
+key_data (KeyCount turn) =
+    block (λ x b s sets. Turning x turn at_key_count b s × Turned turn 5 sets × Last sets (turn % 16) false) (λ x s. Searching (116 + 14 * turn) (suc turn))
+    at_key_count (1 ∷ [])
+key_data (KeyFreed turn looks) =
+    block (λ x b s sets. Waiting x at_key_freed b s × JustUp sets (b.regs.r.re.lo % 16) × (b.regs.r.re.lo % 16 ≡ turn % 16)) (λ x s. Freed turn looks)
+    at_key_freed (1 ∷ 3 ∷ 4 ∷ [])
 
-abbrev pub key_place_time : KeyPlace → Time
-key_place_time (SkipTest down) = Exactly (skip_time down + 2)
-key_place_time (KeyTest turn) = Searching (114 + 14 * turn) turn
-key_place_time (KeyHeld turn looks) = Looking turn looks
-
--- where a block's instructions begin, and where a place's one does
-abbrev pub key_addresses : KeyBlock → List ℕ
-key_addresses KeySkip = from at_key_skip (0 ∷ 1 ∷ 2 ∷ 4 ∷ [])
-key_addresses KeySkipUp = from at_key_skip_up (0 ∷ 1 ∷ 3 ∷ [])
-key_addresses (SkipLatch down) = skip_label down ∷ []
-key_addresses (NoSkip down) = no_skip_label down ∷ []
-key_addresses (Skip down) = from at_key_yes (0 ∷ 1 ∷ 2 ∷ [])
-key_addresses WaitKey = from at_wait_key (0 ∷ 2 ∷ 3 ∷ 5 ∷ 6 ∷ 7 ∷ 9 ∷ [])
-key_addresses (KeyNext turn) = from at_key_next (0 ∷ 1 ∷ 2 ∷ 3 ∷ [])
-key_addresses (KeyCount turn) = from at_key_count (0 ∷ 1 ∷ [])
-key_addresses (KeyFreed turn looks) = from at_key_freed (0 ∷ 1 ∷ 3 ∷ 4 ∷ [])
-
-abbrev pub key_place_address : KeyPlace → ℕ
-key_place_address (SkipTest down) = skip_test_label down
-key_place_address (KeyTest turn) = at_key_test
-key_place_address (KeyHeld turn looks) = at_key_held
+abbrev pub key_place_data : KeyPlace → PlaceData
+key_place_data (SkipTest down) =
+    place (λ x b s sets. Skipping x down (skip_test_label down) b s × (b.key ≡ skip_key s)) (λ x s. Exactly (skip_time down + 2)) (skip_test_label down)
+key_place_data (KeyTest turn) =
+    place (λ x b s sets. Turning x turn at_key_test b s × (b.key ≡ turn % 16) × Turned turn 4 sets) (λ x s. Searching (114 + 14 * turn) turn) at_key_test
+key_place_data (KeyHeld turn looks) =
+    place (λ x b s sets. Waiting x at_key_held b s × (b.key ≡ b.regs.r.re.lo % 16) × Last sets (b.regs.r.re.lo % 16) true × (b.regs.r.re.lo % 16 ≡ turn % 16))
+    (λ x s. Looking turn looks)
+    at_key_held

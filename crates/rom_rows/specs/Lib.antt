@@ -1,5 +1,6 @@
 pub mod Rom
 pub mod Heads
+pub mod Blocks
 pub mod FetchBlocks
 pub mod ArithBlocks
 pub mod Checks

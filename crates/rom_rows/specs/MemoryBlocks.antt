@@ -9,6 +9,7 @@ use Rattle.chip8_lang.specs.Timed.{check_cycles}
 use Rattle.chip8_image.specs.Labels.{at_fetch, at_index, at_add_index, at_digit, at_decimal, at_decimal_found, at_hundreds, at_hundreds_end, at_tens, at_tens_end, at_store, at_store_found, at_store_byte, at_store_end, at_restore, at_restore_found, at_restore_byte, at_restore_end, at_write_outside, at_read_outside, at_check, at_check_game, at_check_font, at_check_low, at_in_game, at_in_font, at_nowhere}
 use Rattle.rom_law.specs.Program.{Program}
 use Rattle.rom_law.specs.Holding.{places, Holding}
+use Rattle.rom_rows.specs.Blocks.{BlockData, block, block_over}
 use Rattle.rom_rows.specs.Heads.{Time, from, high_byte, low_byte, page_of, Enters}
 use Rattle.rom_rows.specs.Heads.Time.{Exactly}
 use Rattle.rom_rows.specs.Checks.{Caller, Calls, count_of, call_time, Answer, answer_time, IsAnswer, Called, Checking, Comparing, Checked}
@@ -98,105 +99,69 @@ answer_label InGame = at_in_game
 answer_label InFont = at_in_font
 answer_label Nowhere = at_nowhere
 
-abbrev pub memory_at : Program → MemoryBlock → Machine → Lang → Type 0
-memory_at x Index b s = Enters x at_index 10 b s
-memory_at x AddIndex b s = Enters x at_add_index 15 b s × (low_byte s ≡ 0x1e)
-memory_at x Digit b s = Enters x at_digit 15 b s × (low_byte s ≡ 0x29)
-memory_at x (Check c) b s = Checking x c at_check b s
-memory_at x (CheckGame c) b s = Comparing x c at_check_game b s × (memory_start ≤ s.i)
-memory_at x (CheckFont c) b s = Comparing x c at_check_font b s × (is_in_memory x.edition s.i (count_of c s) ≡ false) × (memory_start ≤ s.i)
-memory_at x (CheckLow c) b s = Comparing x c at_check_low b s × (is_in_memory x.edition s.i (count_of c s) ≡ false) × (s.i / 256 ≡ 0x87)
-memory_at x (Answering c answer) b s = Checking x c (answer_label answer) b s × IsAnswer x.edition answer s.i (count_of c s)
-memory_at x Decimal b s = Enters x at_decimal 15 b s × (low_byte s ≡ 0x33)
-memory_at x (DecimalFound answer) b s = Checked x ForDecimal answer b s
-memory_at x (Hundreds k) b s = Dividing x at_hundreds k 0 (variable_x s - k * 100) b s × (k * 100 ≤ variable_x s)
-memory_at x HundredsEnd b s = Dividing x at_hundreds_end (variable_x s / 100 + 1) 0 (variable_x s % 100 + 156) b s
-memory_at x (Tens k) b s = Dividing x at_tens (variable_x s / 100) k (variable_x s % 100 - k * 10) b s × (k * 10 ≤ variable_x s % 100)
-memory_at x TensEnd b s = Dividing x at_tens_end (variable_x s / 100) (variable_x s / 10 % 10 + 1) (variable_x s % 10 + 246) b s
-memory_at x Store b s = Enters x at_store 15 b s × (low_byte s ≡ 0x55)
-memory_at x (StoreFound answer) b s = Checked x ForStore answer b s
-memory_at x (StoreByte k) b s = Copying x ForStore at_store_byte (stored_to k s) b s × Turn x k b s × (is_in_memory x.edition s.i (last_of s + 1) ≡ true)
-memory_at x StoreEnd b s = Copying x ForStore at_store_end (stored_to (last_of s + 1) s) b s × (is_in_memory x.edition s.i (last_of s + 1) ≡ true)
-memory_at x Restore b s = Enters x at_restore 15 b s × (low_byte s ≡ 0x65)
-memory_at x (RestoreFound answer) b s = Checked x ForRestore answer b s
-memory_at x (RestoreByte k) b s = Copying x ForRestore at_restore_byte (fetched_to k s) b s × Turn x k b s × (is_readable x.edition s.i (last_of s + 1) ≡ true)
-memory_at x RestoreEnd b s = Copying x ForRestore at_restore_end (fetched_to (last_of s + 1) s) b s × (is_readable x.edition s.i (last_of s + 1) ≡ true)
+-- what a caller has behind its first instruction after the check, by the answer
+abbrev pub decimal_found : Answer → List ℕ
+decimal_found InGame = from at_decimal_found (2 ∷ 3 ∷ 4 ∷ 5 ∷ 6 ∷ 8 ∷ 9 ∷ 10 ∷ [])
+decimal_found answer = from at_write_outside (0 ∷ 2 ∷ [])
 
-abbrev pub memory_moves : MemoryBlock → ℕ
-memory_moves Index = 6
-memory_moves AddIndex = 8
-memory_moves Digit = 15
-memory_moves (Check c) = 10
-memory_moves (CheckGame c) = 6
-memory_moves (CheckFont c) = 3
-memory_moves (CheckLow c) = 4
-memory_moves (Answering c answer) = 2
-memory_moves Decimal = 7
-memory_moves (DecimalFound InGame) = 9
-memory_moves (DecimalFound answer) = 3
-memory_moves (Hundreds k) = 3
-memory_moves HundredsEnd = 2
-memory_moves (Tens k) = 3
-memory_moves TensEnd = 12
-memory_moves Store = 9
-memory_moves (StoreFound InGame) = 5
-memory_moves (StoreFound answer) = 3
-memory_moves (StoreByte k) = 6
-memory_moves StoreEnd = 1
-memory_moves Restore = 9
-memory_moves (RestoreFound Nowhere) = 4
-memory_moves (RestoreFound answer) = 6
-memory_moves (RestoreByte k) = 6
-memory_moves RestoreEnd = 1
+abbrev pub store_found : Answer → List ℕ
+store_found InGame = from at_store_found (2 ∷ 4 ∷ 5 ∷ 7 ∷ [])
+store_found answer = from at_write_outside (0 ∷ 2 ∷ [])
 
-abbrev pub memory_time : Program → MemoryBlock → Lang → Time
-memory_time x Index s = Exactly 80
-memory_time x AddIndex s = Exactly 110
-memory_time x Digit s = Exactly 116
-memory_time x (Check c) s = Exactly (call_time c)
-memory_time x (CheckGame c) s = Exactly (call_time c + 20)
-memory_time x (CheckFont c) s = Exactly (call_time c + 32)
-memory_time x (CheckLow c) s = Exactly (call_time c + 38)
-memory_time x (Answering c answer) s = Exactly (call_time c + answer_time answer s.i)
-memory_time x Decimal s = Exactly 122
-memory_time x (DecimalFound answer) s = Exactly (140 + answer_time answer s.i)
-memory_time x (Hundreds k) s = Exactly (190 + 6 * k)
-memory_time x HundredsEnd s = Exactly (196 + 6 * (variable_x s / 100))
-memory_time x (Tens k) s = Exactly (200 + 6 * (variable_x s / 100) + 6 * k)
-memory_time x TensEnd s = Exactly (206 + 6 * (variable_x s / 100 + variable_x s / 10 % 10))
-memory_time x Store s = Exactly 128
-memory_time x (StoreFound answer) s = Exactly (150 + answer_time answer s.i)
-memory_time x (StoreByte k) s = Exactly (192 + 12 * k)
-memory_time x StoreEnd s = Exactly (204 + 12 * last_of s)
-memory_time x Restore s = Exactly 134
-memory_time x (RestoreFound answer) s = Exactly (156 + answer_time answer s.i)
-memory_time x (RestoreByte k) s = Exactly (200 + check_cycles x.edition s (last_of s + 1) + 12 * k)
-memory_time x RestoreEnd s = Exactly (212 + check_cycles x.edition s (last_of s + 1) + 12 * last_of s)
+abbrev pub restore_found : Answer → List ℕ
+restore_found Nowhere = (at_restore_found + 2) ∷ from at_read_outside (0 ∷ 2 ∷ [])
+restore_found answer = from at_restore_found (2 ∷ 4 ∷ 6 ∷ 7 ∷ 9 ∷ [])
 
--- where its instructions begin
-abbrev pub memory_addresses : MemoryBlock → List ℕ
-memory_addresses Index = from at_index (0 ∷ 1 ∷ 3 ∷ 4 ∷ 5 ∷ 6 ∷ [])
-memory_addresses AddIndex = from at_add_index (0 ∷ 1 ∷ 2 ∷ 3 ∷ 4 ∷ 5 ∷ 7 ∷ 8 ∷ [])
-memory_addresses Digit = from at_digit (0 ∷ 2 ∷ 3 ∷ 5 ∷ 6 ∷ 7 ∷ 8 ∷ 10 ∷ 11 ∷ 12 ∷ 13 ∷ 14 ∷ 15 ∷ 17 ∷ 18 ∷ [])
-memory_addresses (Check c) = from at_check (0 ∷ 2 ∷ 3 ∷ 5 ∷ 6 ∷ 7 ∷ 8 ∷ 9 ∷ 10 ∷ 12 ∷ [])
-memory_addresses (CheckGame c) = from at_check_game (0 ∷ 1 ∷ 3 ∷ 4 ∷ 5 ∷ 7 ∷ [])
-memory_addresses (CheckFont c) = from at_check_font (0 ∷ 1 ∷ 3 ∷ [])
-memory_addresses (CheckLow c) = from at_check_low (0 ∷ 1 ∷ 3 ∷ 4 ∷ [])
-memory_addresses (Answering c answer) = from (answer_label answer) (0 ∷ 2 ∷ [])
-memory_addresses Decimal = from at_decimal (0 ∷ 2 ∷ 3 ∷ 5 ∷ 6 ∷ 8 ∷ 9 ∷ [])
-memory_addresses (DecimalFound InGame) = from at_decimal_found (0 ∷ 2 ∷ 3 ∷ 4 ∷ 5 ∷ 6 ∷ 8 ∷ 9 ∷ 10 ∷ [])
-memory_addresses (DecimalFound answer) = at_decimal_found ∷ from at_write_outside (0 ∷ 2 ∷ [])
-memory_addresses (Hundreds k) = from at_hundreds (0 ∷ 1 ∷ 3 ∷ [])
-memory_addresses HundredsEnd = from at_hundreds_end (0 ∷ 1 ∷ [])
-memory_addresses (Tens k) = from at_tens (0 ∷ 1 ∷ 3 ∷ [])
-memory_addresses TensEnd = from at_tens_end (0 ∷ 1 ∷ 3 ∷ 4 ∷ 5 ∷ 6 ∷ 7 ∷ 8 ∷ 9 ∷ 10 ∷ 11 ∷ 12 ∷ [])
-memory_addresses Store = from at_store (0 ∷ 1 ∷ 3 ∷ 5 ∷ 6 ∷ 8 ∷ 9 ∷ 11 ∷ 12 ∷ [])
-memory_addresses (StoreFound InGame) = from at_store_found (0 ∷ 2 ∷ 4 ∷ 5 ∷ 7 ∷ [])
-memory_addresses (StoreFound answer) = at_store_found ∷ from at_write_outside (0 ∷ 2 ∷ [])
-memory_addresses (StoreByte k) = from at_store_byte (0 ∷ 1 ∷ 2 ∷ 3 ∷ 4 ∷ 5 ∷ [])
-memory_addresses StoreEnd = at_store_end ∷ []
-memory_addresses Restore = from at_restore (0 ∷ 1 ∷ 3 ∷ 5 ∷ 6 ∷ 8 ∷ 9 ∷ 11 ∷ 12 ∷ [])
-memory_addresses (RestoreFound Nowhere) = from at_restore_found (0 ∷ 2 ∷ []) ++ from at_read_outside (0 ∷ 2 ∷ [])
-memory_addresses (RestoreFound answer) = from at_restore_found (0 ∷ 2 ∷ 4 ∷ 6 ∷ 7 ∷ 9 ∷ [])
-memory_addresses (RestoreByte k) = from at_restore_byte (0 ∷ 1 ∷ 2 ∷ 3 ∷ 4 ∷ 5 ∷ [])
-memory_addresses RestoreEnd = at_restore_end ∷ []
+abbrev pub memory_data : MemoryBlock → BlockData
+memory_data Index = block (λ x b s sets. Enters x at_index 10 b s) (λ x s. Exactly 80) at_index (1 ∷ 3 ∷ 4 ∷ 5 ∷ 6 ∷ [])
+memory_data AddIndex =
+    block (λ x b s sets. Enters x at_add_index 15 b s × (low_byte s ≡ 0x1e)) (λ x s. Exactly 110) at_add_index (1 ∷ 2 ∷ 3 ∷ 4 ∷ 5 ∷ 7 ∷ 8 ∷ [])
+memory_data Digit =
+    block (λ x b s sets. Enters x at_digit 15 b s × (low_byte s ≡ 0x29)) (λ x s. Exactly 116)
+    at_digit (2 ∷ 3 ∷ 5 ∷ 6 ∷ 7 ∷ 8 ∷ 10 ∷ 11 ∷ 12 ∷ 13 ∷ 14 ∷ 15 ∷ 17 ∷ 18 ∷ [])
+memory_data (Check c) = block (λ x b s sets. Checking x c at_check b s) (λ x s. Exactly (call_time c)) at_check (2 ∷ 3 ∷ 5 ∷ 6 ∷ 7 ∷ 8 ∷ 9 ∷ 10 ∷ 12 ∷ [])
+memory_data (CheckGame c) =
+    block (λ x b s sets. Comparing x c at_check_game b s × (memory_start ≤ s.i)) (λ x s. Exactly (call_time c + 20)) at_check_game (1 ∷ 3 ∷ 4 ∷ 5 ∷ 7 ∷ [])
+memory_data (CheckFont c) =
+    block (λ x b s sets. Comparing x c at_check_font b s × (is_in_memory x.edition s.i (count_of c s) ≡ false) × (memory_start ≤ s.i))
+    (λ x s. Exactly (call_time c + 32)) at_check_font (1 ∷ 3 ∷ [])
+memory_data (CheckLow c) =
+    block (λ x b s sets. Comparing x c at_check_low b s × (is_in_memory x.edition s.i (count_of c s) ≡ false) × (s.i / 256 ≡ 0x87))
+    (λ x s. Exactly (call_time c + 38)) at_check_low (1 ∷ 3 ∷ 4 ∷ [])
+memory_data (Answering c answer) =
+    block (λ x b s sets. Checking x c (answer_label answer) b s × IsAnswer x.edition answer s.i (count_of c s))
+    (λ x s. Exactly (call_time c + answer_time answer s.i)) (answer_label answer) (2 ∷ [])
+memory_data Decimal = block (λ x b s sets. Enters x at_decimal 15 b s × (low_byte s ≡ 0x33)) (λ x s. Exactly 122) at_decimal (2 ∷ 3 ∷ 5 ∷ 6 ∷ 8 ∷ 9 ∷ [])
+memory_data (DecimalFound answer) =
+    block_over (λ x b s sets. Checked x ForDecimal answer b s) (λ x s. Exactly (140 + answer_time answer s.i)) at_decimal_found (decimal_found answer)
+memory_data (Hundreds k) =
+    block (λ x b s sets. Dividing x at_hundreds k 0 (variable_x s - k * 100) b s × (k * 100 ≤ variable_x s)) (λ x s. Exactly (190 + 6 * k))
+    at_hundreds (1 ∷ 3 ∷ [])
+memory_data HundredsEnd =
+    block (λ x b s sets. Dividing x at_hundreds_end (variable_x s / 100 + 1) 0 (variable_x s % 100 + 156) b s) (λ x s. Exactly (196 + 6 * (variable_x s / 100)))
+    at_hundreds_end (1 ∷ [])
+memory_data (Tens k) =
+    block (λ x b s sets. Dividing x at_tens (variable_x s / 100) k (variable_x s % 100 - k * 10) b s × (k * 10 ≤ variable_x s % 100))
+    (λ x s. Exactly (200 + 6 * (variable_x s / 100) + 6 * k)) at_tens (1 ∷ 3 ∷ [])
+memory_data TensEnd =
+    block (λ x b s sets. Dividing x at_tens_end (variable_x s / 100) (variable_x s / 10 % 10 + 1) (variable_x s % 10 + 246) b s)
+    (λ x s. Exactly (206 + 6 * (variable_x s / 100 + variable_x s / 10 % 10))) at_tens_end (1 ∷ 3 ∷ 4 ∷ 5 ∷ 6 ∷ 7 ∷ 8 ∷ 9 ∷ 10 ∷ 11 ∷ 12 ∷ [])
+memory_data Store = block (λ x b s sets. Enters x at_store 15 b s × (low_byte s ≡ 0x55)) (λ x s. Exactly 128) at_store (1 ∷ 3 ∷ 5 ∷ 6 ∷ 8 ∷ 9 ∷ 11 ∷ 12 ∷ [])
+memory_data (StoreFound answer) =
+    block_over (λ x b s sets. Checked x ForStore answer b s) (λ x s. Exactly (150 + answer_time answer s.i)) at_store_found (store_found answer)
+memory_data (StoreByte k) =
+    block (λ x b s sets. Copying x ForStore at_store_byte (stored_to k s) b s × Turn x k b s × (is_in_memory x.edition s.i (last_of s + 1) ≡ true))
+    (λ x s. Exactly (192 + 12 * k)) at_store_byte (1 ∷ 2 ∷ 3 ∷ 4 ∷ 5 ∷ [])
+memory_data StoreEnd =
+    block (λ x b s sets. Copying x ForStore at_store_end (stored_to (last_of s + 1) s) b s × (is_in_memory x.edition s.i (last_of s + 1) ≡ true))
+    (λ x s. Exactly (204 + 12 * last_of s)) at_store_end []
+memory_data Restore =
+    block (λ x b s sets. Enters x at_restore 15 b s × (low_byte s ≡ 0x65)) (λ x s. Exactly 134) at_restore (1 ∷ 3 ∷ 5 ∷ 6 ∷ 8 ∷ 9 ∷ 11 ∷ 12 ∷ [])
+memory_data (RestoreFound answer) =
+    block_over (λ x b s sets. Checked x ForRestore answer b s) (λ x s. Exactly (156 + answer_time answer s.i)) at_restore_found (restore_found answer)
+memory_data (RestoreByte k) =
+    block (λ x b s sets. Copying x ForRestore at_restore_byte (fetched_to k s) b s × Turn x k b s × (is_readable x.edition s.i (last_of s + 1) ≡ true))
+    (λ x s. Exactly (200 + check_cycles x.edition s (last_of s + 1) + 12 * k)) at_restore_byte (1 ∷ 2 ∷ 3 ∷ 4 ∷ 5 ∷ [])
+memory_data RestoreEnd =
+    block (λ x b s sets. Copying x ForRestore at_restore_end (fetched_to (last_of s + 1) s) b s × (is_readable x.edition s.i (last_of s + 1) ≡ true))
+    (λ x s. Exactly (212 + check_cycles x.edition s (last_of s + 1) + 12 * last_of s)) at_restore_end []

@@ -11,6 +11,7 @@ use Rattle.chip8_lang.specs.Timed.{asked_cycles, edge_cycles, row_cycles}
 use Rattle.chip8_image.specs.Labels.{at_fetch, at_clear, at_clear_wait, at_wipe, at_wipe3, at_wipe6, at_wiped, at_cleared, at_draw, at_draw_check, at_draw_found, at_draw_outside, at_place, at_edge, at_fits, at_angle, at_begin, at_row, at_row_byte, at_shift7, at_shifted, at_row_right, at_row_store, at_ready, at_draw_wait, at_line, at_line_left, at_line_right, at_drawn}
 use Rattle.rom_law.specs.Program.{Program}
 use Rattle.rom_law.specs.Holding.{places, Holding}
+use Rattle.rom_rows.specs.Blocks.{BlockData, PlaceData, block, block_over, place}
 use Rattle.rom_rows.specs.Heads.{Time, from, high_byte, low_byte, page_of, Entered, Enters, Done}
 use Rattle.rom_rows.specs.Heads.Time.{Exactly, Waited}
 use Rattle.rom_rows.specs.Checks.{Answer, answer_time, Checked}
@@ -198,69 +199,7 @@ pub record Painting (x : Program) (a w m n : ℕ) (drawn : Pixels) (b : Machine)
 abbrev pub woken : Machine → Machine
 woken b = record b { regs = record b.regs { idle = false } }
 
--- ---- the tables
-
-abbrev pub sprite_at : Program → SpriteBlock → Machine → Lang → Type 0
-sprite_at x Clear b s = Entered x at_clear b s × Clears s
-sprite_at x (Wipe k) b s = Clearing x at_wipe (8 * k + 8) b s × (k < rows_of x.edition)
-sprite_at x (Wipe3 k) b s = Clearing x at_wipe3 (8 * k + 6) b s × (k < rows_of x.edition) × (b.regs.d ≡ 0)
-sprite_at x (Wipe6 k) b s = Clearing x at_wipe6 (8 * k + 3) b s × (k < rows_of x.edition) × (b.regs.d ≡ 0)
-sprite_at x (Wiped k) b s = Clearing x at_wiped (8 * k) b s × (k < rows_of x.edition)
-sprite_at x Cleared b s = Done x at_cleared b s × Clears s
-sprite_at x Draw b s = Enters x at_draw 13 b s
-sprite_at x DrawCheck b s = Enters x at_draw_check 13 b s × (b.regs.r.re.lo ≡ asked s) × (0 < asked s)
-sprite_at x (DrawFound answer) b s = Checked x ForDraw answer b s
-sprite_at x Place b s = Aiming x at_place (asked s) b s
-sprite_at x Edge b s = Aiming x at_edge (asked s) b s × Summing x b × (rows_of x.edition ≤ top x.edition s + asked s)
-sprite_at x Fits b s = Aiming x at_fits (height x.edition s) b s × Summing x b
-sprite_at x Angle b s = Aiming x at_angle (height x.edition s) b s × Summing x b × Aimed x b s
-sprite_at x Begin b s = Aiming x at_begin (height x.edition s) b s × Aimed x b s × (b.regs.r.rc.lo ≡ entry_of s)
-sprite_at x (Row r) b s = Preparing x at_row r r r b s × (r ≤ height x.edition s)
-sprite_at x (RowByte r) b s = Preparing x at_row_byte r r r b s × (r < height x.edition s)
-sprite_at x (Shift r j) b s = Preparing x (at_shift7 + 6 * (7 - j)) r r (r + 1) b s × (r < height x.edition s) × Shifting r j b s × (0 < j) × (j ≤ column s % 8)
-sprite_at x (Shifted r) b s = Preparing x at_shifted r r (r + 1) b s × (r < height x.edition s) × Shifting r 0 b s
-sprite_at x (RowRight r) b s = Preparing x at_row_right (r + 1) r (r + 1) b s × (r < height x.edition s) × (b.regs.r.rc.lo ≡ right (column s) (sprite_row s r)) × (column s / 8 ≡ 7 → ⊥)
-sprite_at x (RowStore r) b s = Preparing x at_row_store (r + 1) r (r + 1) b s × (r < height x.edition s) × (b.regs.d ≡ right (column s) (sprite_row s r))
-sprite_at x Ready b s = let h = height x.edition s in Preparing x at_ready h h h b s
-sprite_at x (Line r) b s = Painting x at_line (2 * r) (8 * r) (height x.edition s - r) (lit x.edition r s) b s × (r ≤ height x.edition s)
-sprite_at x (LineLeft r) b s = Painting x at_line_left (2 * r) (8 * r) (height x.edition s - r) (lit x.edition r s) b s × (r < height x.edition s)
-sprite_at x (LineRight r) b s =
-    Painting x at_line_right (2 * r + 1) (8 * r + 1) (height x.edition s - (r + 1)) (half_lit x.edition r s) b s × (r < height x.edition s)
-sprite_at x Drawn b s = let h = height x.edition s in Painting x at_drawn (2 * h) (8 * h) 0 (lit x.edition h s) b s
-
-abbrev pub sprite_place_at : Program → SpritePlace → Machine → Lang → Type 0
-sprite_place_at x ClearWait b s = Clearing x at_clear_wait (8 * rows_of x.edition) b s
-sprite_place_at x ClearIdle b s = Clearing x at_wipe (8 * rows_of x.edition) (woken b) s × (b.regs.idle ≡ true)
-sprite_place_at x DrawWait b s = Painting x at_draw_wait 0 0 (height x.edition s) (lit x.edition 0 s) b s
-sprite_place_at x DrawIdle b s = Painting x at_line 0 0 (height x.edition s) (lit x.edition 0 s) (woken b) s × (b.regs.idle ≡ true)
-
-abbrev pub sprite_moves : SpriteBlock → ℕ
-sprite_moves Clear = 5
-sprite_moves (Wipe k) = 3
-sprite_moves (Wipe3 k) = 3
-sprite_moves (Wipe6 k) = 3
-sprite_moves (Wiped k) = 3
-sprite_moves Cleared = 1
-sprite_moves Draw = 4
-sprite_moves DrawCheck = 5
-sprite_moves (DrawFound Nowhere) = 4
-sprite_moves (DrawFound answer) = 2
-sprite_moves Place = 12
-sprite_moves Edge = 4
-sprite_moves Fits = 20
-sprite_moves Angle = 9
-sprite_moves Begin = 12
-sprite_moves (Row r) = 2
-sprite_moves (RowByte r) = 7
-sprite_moves (Shift r j) = 6
-sprite_moves (Shifted r) = 7
-sprite_moves (RowRight r) = 1
-sprite_moves (RowStore r) = 3
-sprite_moves Ready = 11
-sprite_moves (Line r) = 2
-sprite_moves (LineLeft r) = 11
-sprite_moves (LineRight r) = 16
-sprite_moves Drawn = 10
+-- ---- the main cycles
 
 -- DXYN: the main cycles up to the rows, but for those that it always takes; those of r rows; and those up to the wait
 abbrev pub aim_time : Edition → Lang → ℕ
@@ -274,40 +213,6 @@ rows_time s r = r * row_cycles (column s)
 
 abbrev pub draw_time : Edition → Lang → ℕ
 draw_time e s = 222 + aim_time e s + edge_time e s + rows_time s (height e s)
-
--- Behind the wait of 00E0 a row is cleared in 24 main cycles. DXYN draws one in 58.
-abbrev pub sprite_time : Program → SpriteBlock → Lang → Time
-sprite_time x Clear s = Exactly 90
-sprite_time x (Wipe k) s = Waited (102 + 24 * (rows_of x.edition - 1 - k))
-sprite_time x (Wipe3 k) s = Waited (108 + 24 * (rows_of x.edition - 1 - k))
-sprite_time x (Wipe6 k) s = Waited (114 + 24 * (rows_of x.edition - 1 - k))
-sprite_time x (Wiped k) s = Waited (120 + 24 * (rows_of x.edition - 1 - k))
-sprite_time x Cleared s = Waited (102 + 24 * rows_of x.edition)
-sprite_time x Draw s = Exactly 80
-sprite_time x DrawCheck s = Exactly 88
-sprite_time x (DrawFound answer) s = Exactly (102 + answer_time answer s.i)
-sprite_time x Place s = Exactly (88 + aim_time x.edition s)
-sprite_time x Edge s = Exactly (112 + aim_time x.edition s)
-sprite_time x Fits s = Exactly (112 + aim_time x.edition s + edge_time x.edition s)
-sprite_time x Angle s = Exactly (152 + aim_time x.edition s + edge_time x.edition s)
-sprite_time x Begin s = Exactly (170 + aim_time x.edition s + edge_time x.edition s)
-sprite_time x (Row r) s = Exactly (194 + aim_time x.edition s + edge_time x.edition s + rows_time s r)
-sprite_time x (RowByte r) s = Exactly (198 + aim_time x.edition s + edge_time x.edition s + rows_time s r)
-sprite_time x (Shift r j) s = Exactly (212 + aim_time x.edition s + edge_time x.edition s + rows_time s r + 12 * (column s % 8 - j))
-sprite_time x (Shifted r) s = Exactly (212 + aim_time x.edition s + edge_time x.edition s + rows_time s r + 12 * (column s % 8))
-sprite_time x (RowRight r) s = Exactly (226 + aim_time x.edition s + edge_time x.edition s + rows_time s r + 12 * (column s % 8))
-sprite_time x (RowStore r) s = Exactly (188 + aim_time x.edition s + edge_time x.edition s + rows_time s r + row_cycles (column s))
-sprite_time x Ready s = Exactly (198 + aim_time x.edition s + edge_time x.edition s + rows_time s (height x.edition s))
-sprite_time x (Line r) s = Waited (draw_time x.edition s + 58 * r)
-sprite_time x (LineLeft r) s = Waited (draw_time x.edition s + 58 * r + 4)
-sprite_time x (LineRight r) s = Waited (draw_time x.edition s + 58 * r + 26)
-sprite_time x Drawn s = Waited (draw_time x.edition s + 58 * height x.edition s + 4)
-
-abbrev pub sprite_place_time : Program → SpritePlace → Lang → Time
-sprite_place_time x ClearWait s = Exactly 100
-sprite_place_time x ClearIdle s = Exactly 102
-sprite_place_time x DrawWait s = Exactly (draw_time x.edition s - 2)
-sprite_place_time x DrawIdle s = Exactly (draw_time x.edition s)
 
 -- the blocks behind the wait
 abbrev pub IsWaited : SpriteBlock → Type 0
@@ -335,37 +240,91 @@ IsEarly (LineRight r) = ⊥
 IsEarly Drawn = ⊥
 IsEarly _ = Unit {0}
 
--- where a block's instructions begin, and where a place's one does
-abbrev pub sprite_addresses : SpriteBlock → List ℕ
-sprite_addresses Clear = from at_clear (0 ∷ 2 ∷ 3 ∷ 5 ∷ 6 ∷ [])
-sprite_addresses (Wipe k) = from at_wipe (0 ∷ 2 ∷ 3 ∷ [])
-sprite_addresses (Wipe3 k) = from at_wipe3 (0 ∷ 1 ∷ 2 ∷ [])
-sprite_addresses (Wipe6 k) = from at_wipe6 (0 ∷ 1 ∷ 2 ∷ [])
-sprite_addresses (Wiped k) = from at_wiped (0 ∷ 1 ∷ 3 ∷ [])
-sprite_addresses Cleared = at_cleared ∷ []
-sprite_addresses Draw = from at_draw (0 ∷ 1 ∷ 3 ∷ 4 ∷ [])
-sprite_addresses DrawCheck = from at_draw_check (0 ∷ 2 ∷ 3 ∷ 5 ∷ 6 ∷ [])
-sprite_addresses (DrawFound Nowhere) = from at_draw_found (0 ∷ 2 ∷ []) ++ from at_draw_outside (0 ∷ 2 ∷ [])
-sprite_addresses (DrawFound answer) = from at_draw_found (0 ∷ 2 ∷ [])
-sprite_addresses Place = from at_place (0 ∷ 2 ∷ 3 ∷ 5 ∷ 6 ∷ 7 ∷ 8 ∷ 10 ∷ 12 ∷ 13 ∷ 14 ∷ 15 ∷ [])
-sprite_addresses Edge = from at_edge (0 ∷ 1 ∷ 3 ∷ 5 ∷ [])
-sprite_addresses Fits = from at_fits (0 ∷ 1 ∷ 2 ∷ 3 ∷ 5 ∷ 6 ∷ 7 ∷ 8 ∷ 9 ∷ 11 ∷ 13 ∷ 14 ∷ 15 ∷ 17 ∷ 18 ∷ 19 ∷ 20 ∷ 21 ∷ 22 ∷ 23 ∷ [])
-sprite_addresses Angle = from at_angle (0 ∷ 1 ∷ 3 ∷ 5 ∷ 6 ∷ 7 ∷ 8 ∷ 9 ∷ 11 ∷ [])
-sprite_addresses Begin = from at_begin (0 ∷ 1 ∷ 2 ∷ 3 ∷ 4 ∷ 6 ∷ 7 ∷ 9 ∷ 10 ∷ 11 ∷ 12 ∷ 13 ∷ [])
-sprite_addresses (Row r) = from at_row (0 ∷ 1 ∷ [])
-sprite_addresses (RowByte r) = from at_row_byte (0 ∷ 1 ∷ 2 ∷ 3 ∷ 5 ∷ 6 ∷ 7 ∷ [])
-sprite_addresses (Shift r j) = from (at_shift7 + 6 * (7 - j)) (0 ∷ 1 ∷ 2 ∷ 3 ∷ 4 ∷ 5 ∷ [])
-sprite_addresses (Shifted r) = from at_shifted (0 ∷ 1 ∷ 2 ∷ 3 ∷ 4 ∷ 6 ∷ 8 ∷ [])
-sprite_addresses (RowRight r) = at_row_right ∷ []
-sprite_addresses (RowStore r) = from at_row_store (0 ∷ 1 ∷ 2 ∷ [])
-sprite_addresses Ready = from at_ready (0 ∷ 1 ∷ 2 ∷ 3 ∷ 4 ∷ 5 ∷ 6 ∷ 8 ∷ 9 ∷ 11 ∷ 12 ∷ [])
-sprite_addresses (Line r) = from at_line (0 ∷ 1 ∷ [])
-sprite_addresses (LineLeft r) = from at_line_left (0 ∷ 1 ∷ 2 ∷ 3 ∷ 5 ∷ 6 ∷ 8 ∷ 9 ∷ 10 ∷ 11 ∷ 12 ∷ [])
-sprite_addresses (LineRight r) = from at_line_right (0 ∷ 1 ∷ 2 ∷ 4 ∷ 5 ∷ 7 ∷ 8 ∷ 9 ∷ 10 ∷ 11 ∷ 12 ∷ 14 ∷ 15 ∷ 16 ∷ 18 ∷ 19 ∷ [])
-sprite_addresses Drawn = from at_drawn (0 ∷ 2 ∷ 3 ∷ 5 ∷ 6 ∷ 7 ∷ 9 ∷ 11 ∷ 12 ∷ 13 ∷ [])
+-- ---- the tables
 
-abbrev pub sprite_place_address : SpritePlace → ℕ
-sprite_place_address ClearWait = at_clear_wait
-sprite_place_address ClearIdle = at_wipe
-sprite_place_address DrawWait = at_draw_wait
-sprite_place_address DrawIdle = at_line
+-- what DXYN has behind its first instruction after the check, by the answer
+abbrev pub draw_found : Answer → List ℕ
+draw_found Nowhere = (at_draw_found + 2) ∷ from at_draw_outside (0 ∷ 2 ∷ [])
+draw_found answer = from at_draw_found (2 ∷ [])
+
+-- behind the wait of 00E0 a row is cleared in 24 main cycles; DXYN draws one in 58
+abbrev pub sprite_data : SpriteBlock → BlockData
+sprite_data Clear = block (λ x b s sets. Entered x at_clear b s × Clears s) (λ x s. Exactly 90) at_clear (2 ∷ 3 ∷ 5 ∷ 6 ∷ [])
+sprite_data (Wipe k) =
+    block (λ x b s sets. Clearing x at_wipe (8 * k + 8) b s × (k < rows_of x.edition)) (λ x s. Waited (102 + 24 * (rows_of x.edition - 1 - k)))
+    at_wipe (2 ∷ 3 ∷ [])
+sprite_data (Wipe3 k) =
+    block (λ x b s sets. Clearing x at_wipe3 (8 * k + 6) b s × (k < rows_of x.edition) × (b.regs.d ≡ 0))
+    (λ x s. Waited (108 + 24 * (rows_of x.edition - 1 - k))) at_wipe3 (1 ∷ 2 ∷ [])
+sprite_data (Wipe6 k) =
+    block (λ x b s sets. Clearing x at_wipe6 (8 * k + 3) b s × (k < rows_of x.edition) × (b.regs.d ≡ 0))
+    (λ x s. Waited (114 + 24 * (rows_of x.edition - 1 - k))) at_wipe6 (1 ∷ 2 ∷ [])
+sprite_data (Wiped k) =
+    block (λ x b s sets. Clearing x at_wiped (8 * k) b s × (k < rows_of x.edition)) (λ x s. Waited (120 + 24 * (rows_of x.edition - 1 - k)))
+    at_wiped (1 ∷ 3 ∷ [])
+sprite_data Cleared = block (λ x b s sets. Done x at_cleared b s × Clears s) (λ x s. Waited (102 + 24 * rows_of x.edition)) at_cleared []
+sprite_data Draw = block (λ x b s sets. Enters x at_draw 13 b s) (λ x s. Exactly 80) at_draw (1 ∷ 3 ∷ 4 ∷ [])
+sprite_data DrawCheck =
+    block (λ x b s sets. Enters x at_draw_check 13 b s × (b.regs.r.re.lo ≡ asked s) × (0 < asked s)) (λ x s. Exactly 88) at_draw_check (2 ∷ 3 ∷ 5 ∷ 6 ∷ [])
+sprite_data (DrawFound answer) =
+    block_over (λ x b s sets. Checked x ForDraw answer b s) (λ x s. Exactly (102 + answer_time answer s.i)) at_draw_found (draw_found answer)
+sprite_data Place =
+    block (λ x b s sets. Aiming x at_place (asked s) b s) (λ x s. Exactly (88 + aim_time x.edition s))
+    at_place (2 ∷ 3 ∷ 5 ∷ 6 ∷ 7 ∷ 8 ∷ 10 ∷ 12 ∷ 13 ∷ 14 ∷ 15 ∷ [])
+sprite_data Edge =
+    block (λ x b s sets. Aiming x at_edge (asked s) b s × Summing x b × (rows_of x.edition ≤ top x.edition s + asked s))
+    (λ x s. Exactly (112 + aim_time x.edition s)) at_edge (1 ∷ 3 ∷ 5 ∷ [])
+sprite_data Fits =
+    block (λ x b s sets. Aiming x at_fits (height x.edition s) b s × Summing x b) (λ x s. Exactly (112 + aim_time x.edition s + edge_time x.edition s))
+    at_fits (1 ∷ 2 ∷ 3 ∷ 5 ∷ 6 ∷ 7 ∷ 8 ∷ 9 ∷ 11 ∷ 13 ∷ 14 ∷ 15 ∷ 17 ∷ 18 ∷ 19 ∷ 20 ∷ 21 ∷ 22 ∷ 23 ∷ [])
+sprite_data Angle =
+    block (λ x b s sets. Aiming x at_angle (height x.edition s) b s × Summing x b × Aimed x b s)
+    (λ x s. Exactly (152 + aim_time x.edition s + edge_time x.edition s)) at_angle (1 ∷ 3 ∷ 5 ∷ 6 ∷ 7 ∷ 8 ∷ 9 ∷ 11 ∷ [])
+sprite_data Begin =
+    block (λ x b s sets. Aiming x at_begin (height x.edition s) b s × Aimed x b s × (b.regs.r.rc.lo ≡ entry_of s))
+    (λ x s. Exactly (170 + aim_time x.edition s + edge_time x.edition s)) at_begin (1 ∷ 2 ∷ 3 ∷ 4 ∷ 6 ∷ 7 ∷ 9 ∷ 10 ∷ 11 ∷ 12 ∷ 13 ∷ [])
+sprite_data (Row r) =
+    block (λ x b s sets. Preparing x at_row r r r b s × (r ≤ height x.edition s))
+    (λ x s. Exactly (194 + aim_time x.edition s + edge_time x.edition s + rows_time s r)) at_row (1 ∷ [])
+sprite_data (RowByte r) =
+    block (λ x b s sets. Preparing x at_row_byte r r r b s × (r < height x.edition s))
+    (λ x s. Exactly (198 + aim_time x.edition s + edge_time x.edition s + rows_time s r)) at_row_byte (1 ∷ 2 ∷ 3 ∷ 5 ∷ 6 ∷ 7 ∷ [])
+sprite_data (Shift r j) =
+    block (λ x b s sets. Preparing x (at_shift7 + 6 * (7 - j)) r r (r + 1) b s × (r < height x.edition s) × Shifting r j b s × (0 < j) × (j ≤ column s % 8))
+    (λ x s. Exactly (212 + aim_time x.edition s + edge_time x.edition s + rows_time s r + 12 * (column s % 8 - j)))
+    (at_shift7 + 6 * (7 - j)) (1 ∷ 2 ∷ 3 ∷ 4 ∷ 5 ∷ [])
+sprite_data (Shifted r) =
+    block (λ x b s sets. Preparing x at_shifted r r (r + 1) b s × (r < height x.edition s) × Shifting r 0 b s)
+    (λ x s. Exactly (212 + aim_time x.edition s + edge_time x.edition s + rows_time s r + 12 * (column s % 8))) at_shifted (1 ∷ 2 ∷ 3 ∷ 4 ∷ 6 ∷ 8 ∷ [])
+sprite_data (RowRight r) =
+    block (λ x b s sets. Preparing x at_row_right (r + 1) r (r + 1) b s × (r < height x.edition s) × (b.regs.r.rc.lo ≡ right (column s) (sprite_row s r)) × (column s / 8 ≡ 7 → ⊥))
+    (λ x s. Exactly (226 + aim_time x.edition s + edge_time x.edition s + rows_time s r + 12 * (column s % 8))) at_row_right []
+sprite_data (RowStore r) =
+    block (λ x b s sets. Preparing x at_row_store (r + 1) r (r + 1) b s × (r < height x.edition s) × (b.regs.d ≡ right (column s) (sprite_row s r)))
+    (λ x s. Exactly (188 + aim_time x.edition s + edge_time x.edition s + rows_time s r + row_cycles (column s))) at_row_store (1 ∷ 2 ∷ [])
+sprite_data Ready =
+    block (λ x b s sets. let h = height x.edition s in Preparing x at_ready h h h b s)
+    (λ x s. Exactly (198 + aim_time x.edition s + edge_time x.edition s + rows_time s (height x.edition s)))
+    at_ready (1 ∷ 2 ∷ 3 ∷ 4 ∷ 5 ∷ 6 ∷ 8 ∷ 9 ∷ 11 ∷ 12 ∷ [])
+sprite_data (Line r) =
+    block (λ x b s sets. Painting x at_line (2 * r) (8 * r) (height x.edition s - r) (lit x.edition r s) b s × (r ≤ height x.edition s))
+    (λ x s. Waited (draw_time x.edition s + 58 * r)) at_line (1 ∷ [])
+sprite_data (LineLeft r) =
+    block (λ x b s sets. Painting x at_line_left (2 * r) (8 * r) (height x.edition s - r) (lit x.edition r s) b s × (r < height x.edition s))
+    (λ x s. Waited (draw_time x.edition s + 58 * r + 4)) at_line_left (1 ∷ 2 ∷ 3 ∷ 5 ∷ 6 ∷ 8 ∷ 9 ∷ 10 ∷ 11 ∷ 12 ∷ [])
+sprite_data (LineRight r) =
+    block (λ x b s sets. Painting x at_line_right (2 * r + 1) (8 * r + 1) (height x.edition s - (r + 1)) (half_lit x.edition r s) b s × (r < height x.edition s))
+    (λ x s. Waited (draw_time x.edition s + 58 * r + 26)) at_line_right (1 ∷ 2 ∷ 4 ∷ 5 ∷ 7 ∷ 8 ∷ 9 ∷ 10 ∷ 11 ∷ 12 ∷ 14 ∷ 15 ∷ 16 ∷ 18 ∷ 19 ∷ [])
+sprite_data Drawn =
+    block (λ x b s sets. let h = height x.edition s in Painting x at_drawn (2 * h) (8 * h) 0 (lit x.edition h s) b s)
+    (λ x s. Waited (draw_time x.edition s + 58 * height x.edition s + 4)) at_drawn (2 ∷ 3 ∷ 5 ∷ 6 ∷ 7 ∷ 9 ∷ 11 ∷ 12 ∷ 13 ∷ [])
+
+abbrev pub sprite_place_data : SpritePlace → PlaceData
+sprite_place_data ClearWait = place (λ x b s sets. Clearing x at_clear_wait (8 * rows_of x.edition) b s) (λ x s. Exactly 100) at_clear_wait
+sprite_place_data ClearIdle = place (λ x b s sets. Clearing x at_wipe (8 * rows_of x.edition) (woken b) s × (b.regs.idle ≡ true)) (λ x s. Exactly 102) at_wipe
+sprite_place_data DrawWait =
+    place (λ x b s sets. Painting x at_draw_wait 0 0 (height x.edition s) (lit x.edition 0 s) b s) (λ x s. Exactly (draw_time x.edition s - 2)) at_draw_wait
+sprite_place_data DrawIdle =
+    place (λ x b s sets. Painting x at_line 0 0 (height x.edition s) (lit x.edition 0 s) (woken b) s × (b.regs.idle ≡ true))
+    (λ x s. Exactly (draw_time x.edition s))
+    at_line

@@ -1,7 +1,9 @@
 -- The row table: the blocks and places of main code of all groups, and what a group's law says.
-use Rattle.std.specs.Prelude.{◌≡◌, ℕ, ◌+◌, ◌*◌, false, Option, Some, None}
+use Rattle.std.specs.Prelude.{◌≡◌, ℕ, ◌+◌, ◌*◌, false, Option, Some, None, length}
 use Rattle.machine.specs.Board.{Machine}
 use Rattle.machine.specs.Ranges.{FitsMachine}
+use Rattle.chip8_image.specs.declared.parts.Part.{Part}
+use Rattle.chip8_image.specs.declared.parts.Part.TheVariants.{Fetch, Arith, Memory, Sprite, Timer, Keys}
 use Rattle.chip8_lang.specs.declared.view.Edition.{Edition}
 use Rattle.machine.specs.Schedule.{Tick}
 use Rattle.chip8_lang.specs.State.{instr_at}
@@ -9,13 +11,14 @@ use Rattle.rom_law.specs.Code.{Input, moved}
 use Rattle.rom_law.specs.Moments.{is_waiting}
 use Rattle.rom_law.specs.Program.{Program, code}
 use Rattle.rom_law.specs.Rows.{Since, Pieces, InBlock, Row, Outcome, now, after_main, after_tick}
+use Rattle.rom_rows.specs.Blocks.{BlockData, PlaceData, addresses}
 use Rattle.rom_rows.specs.Heads.{Within, page_of}
-use Rattle.rom_rows.specs.FetchBlocks.{FetchBlock, fetch_at, fetch_moves, fetch_time}
-use Rattle.rom_rows.specs.ArithBlocks.{ArithBlock, arith_at, arith_moves, arith_time}
-use Rattle.rom_rows.specs.MemoryBlocks.{MemoryBlock, memory_at, memory_moves, memory_time}
-use Rattle.rom_rows.specs.SpriteBlocks.{SpriteBlock, SpritePlace, IsWaited, IsEarly, sprite_at, sprite_place_at, sprite_moves, sprite_time, sprite_place_time}
-use Rattle.rom_rows.specs.TimerBlocks.{TimerBlock, TimerPlace, timer_at, timer_place_at, timer_moves, timer_time, timer_place_time}
-use Rattle.rom_rows.specs.KeyBlocks.{KeyBlock, KeyPlace, key_at, key_place_at, key_moves, key_time, key_place_time}
+use Rattle.rom_rows.specs.FetchBlocks.{FetchBlock, fetch_data}
+use Rattle.rom_rows.specs.ArithBlocks.{ArithBlock, arith_data}
+use Rattle.rom_rows.specs.MemoryBlocks.{MemoryBlock, memory_data}
+use Rattle.rom_rows.specs.SpriteBlocks.{SpriteBlock, SpritePlace, IsWaited, IsEarly, sprite_data, sprite_place_data}
+use Rattle.rom_rows.specs.TimerBlocks.{TimerBlock, TimerPlace, timer_data, timer_place_data}
+use Rattle.rom_rows.specs.KeyBlocks.{KeyBlock, KeyPlace, key_data, key_place_data}
 
 pub data Block : Type 0 where
   OfFetch : (l : FetchBlock) → Block
@@ -30,29 +33,45 @@ pub data Place : Type 0 where
   AtKey : (l : KeyPlace) → Place
   AtSprite : (l : SpritePlace) → Place
 
+-- what the table says of each of them
+abbrev pub data_of : Block → BlockData
+data_of (OfFetch l) = fetch_data l
+data_of (OfArith l) = arith_data l
+data_of (OfMemory l) = memory_data l
+data_of (OfSprite l) = sprite_data l
+data_of (OfTimer l) = timer_data l
+data_of (OfKey l) = key_data l
+
+abbrev pub place_data_of : Place → PlaceData
+place_data_of (AtTimer l) = timer_place_data l
+place_data_of (AtKey l) = key_place_data l
+place_data_of (AtSprite l) = sprite_place_data l
+
+-- the part of the ROM in which each has its code
+abbrev pub part_of_block : Block → Part
+part_of_block (OfFetch l) = Fetch
+part_of_block (OfArith l) = Arith
+part_of_block (OfMemory l) = Memory
+part_of_block (OfSprite l) = Sprite
+part_of_block (OfTimer l) = Timer
+part_of_block (OfKey l) = Keys
+
+abbrev pub part_of_place : Place → Part
+part_of_place (AtTimer l) = Timer
+part_of_place (AtKey l) = Keys
+part_of_place (AtSprite l) = Sprite
+
 -- what is known at the first instruction of a block
 abbrev pub Head : Program → Block → Machine → Since → Type 0
-Head x (OfFetch l) b h = fetch_at x l b (now h) × Within (fetch_time x l (now h)) h
-Head x (OfArith l) b h = arith_at x l b (now h) × Within (arith_time x l (now h)) h
-Head x (OfMemory l) b h = memory_at x l b (now h) × Within (memory_time x l (now h)) h
-Head x (OfSprite l) b h = sprite_at x l b (now h) × Within (sprite_time x l (now h)) h
-Head x (OfTimer l) b h = timer_at x l b (now h) × Within (timer_time l) h
-Head x (OfKey l) b h = key_at x l b (now h) h.keys × Within (key_time l (now h)) h
+Head x l b h = (data_of l).at x b (now h) h.keys × Within ((data_of l).time x (now h)) h
 
 -- the instructions of a block
 abbrev pub moves : Block → ℕ
-moves (OfFetch l) = fetch_moves l
-moves (OfArith l) = arith_moves l
-moves (OfMemory l) = memory_moves l
-moves (OfSprite l) = sprite_moves l
-moves (OfTimer l) = timer_moves l
-moves (OfKey l) = key_moves l
+moves l = length (addresses (data_of l))
 
 -- what is known at a place
 abbrev pub At : Program → Place → Machine → Since → Type 0
-At x (AtTimer l) b h = timer_place_at x l b (now h) × Within (timer_place_time l) h
-At x (AtKey l) b h = key_place_at x l b (now h) h.keys × Within (key_place_time l) h
-At x (AtSprite l) b h = sprite_place_at x l b (now h) × Within (sprite_place_time x l (now h)) h
+At x l b h = (place_data_of l).at x b (now h) h.keys × Within ((place_data_of l).time x (now h)) h
 
 abbrev pub pieces : Program → Pieces
 pieces x = record { Block = Block; Head = Head x; moves = λ l h. moves l; top = None; Place = Place; At = At x; Makes = λ s. Unit {0} }
@@ -84,7 +103,7 @@ waited_pieces x =
     record {
       Block = (l : SpriteBlock) × IsWaited l;
       Head = λ l. Head x (OfSprite l.0);
-      moves = λ l h. sprite_moves l.0;
+      moves = λ l h. moves (OfSprite l.0);
       top = None;
       Place = ⊥;
       At = λ l b h. ⊥;

@@ -6,6 +6,7 @@ use Rattle.chip8_lang.specs.Editions.{random_cell}
 use Rattle.chip8_lang.specs.State.{Lang, variable}
 use Rattle.chip8_image.specs.Labels.{at_random, at_random_count, at_random_mix, at_get_delay, at_get_delay_put, at_set_delay, at_set_delay_put, at_set_delay_end, at_set_sound, at_set_sound_put, at_set_sound_end}
 use Rattle.rom_law.specs.Program.{Program}
+use Rattle.rom_rows.specs.Blocks.{BlockData, PlaceData, block, place}
 use Rattle.rom_rows.specs.Heads.{Time, from, high_byte, low_byte, Enters, Done}
 use Rattle.rom_rows.specs.Heads.Time.{Exactly, Met}
 
@@ -40,54 +41,24 @@ pub record Ended (x : Program) (a kk : ℕ) (b : Machine) (s : Lang) : Type 0 wh
   pub digit : high_byte s / 16 ≡ 15
   pub low : low_byte s ≡ kk
 
-abbrev pub timer_at : Program → TimerBlock → Machine → Lang → Type 0
-timer_at x Random b s = Enters x at_random 12 b s
-timer_at x RandomMix b s = Enters x at_random_mix 12 b s × Mixes b × (b.regs.d ≡ s.n % 256)
-timer_at x GetDelayPut b s = Enters x at_get_delay_put 15 b s × (low_byte s ≡ 0x07) × (b.regs.d ≡ s.dt)
-timer_at x SetDelay b s = Enters x at_set_delay 15 b s × (low_byte s ≡ 0x15)
-timer_at x SetDelayEnd b s = Ended x at_set_delay_end 0x15 b s
-timer_at x SetSound b s = Enters x at_set_sound 15 b s × (low_byte s ≡ 0x18)
-timer_at x SetSoundEnd b s = Ended x at_set_sound_end 0x18 b s
+abbrev pub timer_data : TimerBlock → BlockData
+timer_data Random = block (λ x b s sets. Enters x at_random 12 b s) (λ x s. Exactly 80) at_random (2 ∷ 3 ∷ 5 ∷ 6 ∷ [])
+timer_data RandomMix =
+    block (λ x b s sets. Enters x at_random_mix 12 b s × Mixes b × (b.regs.d ≡ s.n % 256)) (λ x s. Met 92 90)
+    at_random_mix (1 ∷ 2 ∷ 3 ∷ 4 ∷ 5 ∷ 7 ∷ 8 ∷ 9 ∷ 10 ∷ 11 ∷ [])
+timer_data GetDelayPut =
+    block (λ x b s sets. Enters x at_get_delay_put 15 b s × (low_byte s ≡ 0x07) × (b.regs.d ≡ s.dt)) (λ x s. Met 88 86) at_get_delay_put (1 ∷ [])
+timer_data SetDelay = block (λ x b s sets. Enters x at_set_delay 15 b s × (low_byte s ≡ 0x15)) (λ x s. Exactly 98) at_set_delay []
+timer_data SetDelayEnd = block (λ x b s sets. Ended x at_set_delay_end 0x15 b s) (λ x s. Met 102 100) at_set_delay_end []
+timer_data SetSound = block (λ x b s sets. Enters x at_set_sound 15 b s × (low_byte s ≡ 0x18)) (λ x s. Exactly 104) at_set_sound []
+timer_data SetSoundEnd = block (λ x b s sets. Ended x at_set_sound_end 0x18 b s) (λ x s. Met 108 106) at_set_sound_end []
 
-abbrev pub timer_place_at : Program → TimerPlace → Machine → Lang → Type 0
-timer_place_at x RandomCount b s = Enters x at_random_count 12 b s × Mixes b
-timer_place_at x GetDelay b s = Enters x at_get_delay 15 b s × (low_byte s ≡ 0x07)
-timer_place_at x SetDelayPut b s = Enters x at_set_delay_put 15 b s × (low_byte s ≡ 0x15) × (b.regs.d ≡ variable s (high_byte s % 16))
-timer_place_at x SetSoundPut b s = Enters x at_set_sound_put 15 b s × (low_byte s ≡ 0x18) × (b.regs.d ≡ variable s (high_byte s % 16))
-
-abbrev pub timer_moves : TimerBlock → ℕ
-timer_moves Random = 5
-timer_moves RandomMix = 11
-timer_moves GetDelayPut = 2
-timer_moves _ = 1
-
-abbrev pub timer_time : TimerBlock → Time
-timer_time Random = Exactly 80
-timer_time RandomMix = Met 92 90
-timer_time GetDelayPut = Met 88 86
-timer_time SetDelay = Exactly 98
-timer_time SetDelayEnd = Met 102 100
-timer_time SetSound = Exactly 104
-timer_time SetSoundEnd = Met 108 106
-
-abbrev pub timer_place_time : TimerPlace → Time
-timer_place_time RandomCount = Exactly 90
-timer_place_time GetDelay = Exactly 86
-timer_place_time SetDelayPut = Exactly 100
-timer_place_time SetSoundPut = Exactly 106
-
--- where a block's instructions begin, and where a place's one does
-abbrev pub timer_addresses : TimerBlock → List ℕ
-timer_addresses Random = from at_random (0 ∷ 2 ∷ 3 ∷ 5 ∷ 6 ∷ [])
-timer_addresses RandomMix = from at_random_mix (0 ∷ 1 ∷ 2 ∷ 3 ∷ 4 ∷ 5 ∷ 7 ∷ 8 ∷ 9 ∷ 10 ∷ 11 ∷ [])
-timer_addresses GetDelayPut = from at_get_delay_put (0 ∷ 1 ∷ [])
-timer_addresses SetDelay = at_set_delay ∷ []
-timer_addresses SetDelayEnd = at_set_delay_end ∷ []
-timer_addresses SetSound = at_set_sound ∷ []
-timer_addresses SetSoundEnd = at_set_sound_end ∷ []
-
-abbrev pub timer_place_address : TimerPlace → ℕ
-timer_place_address RandomCount = at_random_count
-timer_place_address GetDelay = at_get_delay
-timer_place_address SetDelayPut = at_set_delay_put
-timer_place_address SetSoundPut = at_set_sound_put
+abbrev pub timer_place_data : TimerPlace → PlaceData
+timer_place_data RandomCount = place (λ x b s sets. Enters x at_random_count 12 b s × Mixes b) (λ x s. Exactly 90) at_random_count
+timer_place_data GetDelay = place (λ x b s sets. Enters x at_get_delay 15 b s × (low_byte s ≡ 0x07)) (λ x s. Exactly 86) at_get_delay
+timer_place_data SetDelayPut =
+    place (λ x b s sets. Enters x at_set_delay_put 15 b s × (low_byte s ≡ 0x15) × (b.regs.d ≡ variable s (high_byte s % 16))) (λ x s. Exactly 100)
+    at_set_delay_put
+timer_place_data SetSoundPut =
+    place (λ x b s sets. Enters x at_set_sound_put 15 b s × (low_byte s ≡ 0x18) × (b.regs.d ≡ variable s (high_byte s % 16))) (λ x s. Exactly 106)
+    at_set_sound_put

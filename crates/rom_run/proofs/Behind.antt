@@ -39,8 +39,8 @@ module _ (e : Edition) where
   quick_wakes : (b c : Machine) (h : Since) → FitsMachine b → b.regs.idle ≡ true → Tick (code (quick e)).low b c
       → Row (quick e) (pieces (quick e)) b h → Row (quick e) (waited_pieces (quick e)) c (after_tick h)
   quick_wakes b c h f i k (Inside l r) = absurd (sleeps (sym i ∙ block_awake (quick e) (pieces (quick e)) (proved_quick e) r))
-  quick_wakes b c h f i k (Alone (AtTimer l) o) = absurd (sleeps (sym i ∙ timer_awake (quick e) b (now h) l o.0))
-  quick_wakes b c h f i k (Alone (AtKey l) o) = absurd (sleeps (sym i ∙ key_awake (quick e) b (now h) l h.keys o.0))
+  quick_wakes b c h f i k (Alone (AtTimer l) o) = absurd (sleeps (sym i ∙ timer_awake (quick e) b (now h) h.keys l o.0))
+  quick_wakes b c h f i k (Alone (AtKey l) o) = absurd (sleeps (sym i ∙ key_awake (quick e) b (now h) h.keys l o.0))
   quick_wakes b c h f i k (Alone (AtSprite l) o) =
       starts_row (quick e) (waited_pieces (quick e)) (waited_sound e (both_fits e)) c (after_tick h) (tick_fits (code (quick e)).low b c f k)
       (sprite_wakes e l b h f i o c k)

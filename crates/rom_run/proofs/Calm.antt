@@ -34,7 +34,9 @@ use Rattle.rom_rows.specs.Table.Place.{AtTimer, AtKey, AtSprite}
 use Rattle.rom_rows.proofs.Bytes.{quick, both_is, both_fits}
 use Rattle.rom_rows.proofs.Calm.{calm_in}
 use Rattle.rom_rows.proofs.Entry.{on_3, is_on_3}
-use Rattle.rom_rows.proofs.Screens.{SameScreen, head_screen, at_screen}
+use Rattle.rom_rows.proofs.PlaceFacts.{place_facts}
+use Rattle.rom_rows.proofs.Screens.{SameScreen}
+use Rattle.rom_rows.proofs.Table.{block_facts}
 use Rattle.rom_rows.proofs.Sounds.{calm_sound}
 use Rattle.rom_run.specs.Running.{Showing}
 use Rattle.rom_run.proofs.Proved.{proved_quick, calm_block, calm_place}
@@ -78,7 +80,7 @@ module _ (e : Edition) where
 
     start_shows : Showing e r.start h
     start_shows px py m n =
-        row_shows r.start r.since (head_screen (quick e) l r.start r.since r.head.1 r.head.0) px py m n
+        row_shows r.start r.since ((block_facts l).screen r.head.1 (quick e) r.start (now r.since) r.since.keys r.head.0.0) px py m n
         ∙ ap (λ (z : Lang). z.screen px py) (sym r.grows.state)
 
     block_shows : FitsMachine b → value b.regs.r.r2 < screen_start e → Showing e b h
@@ -119,9 +121,9 @@ module _ (e : Edition) where
   quick_idle : (b : Machine) (h : Since) (t : ℕ) → b.regs.idle ≡ true → Row (quick e) (calm_pieces (quick e)) b h
       → Row (quick e) (calm_pieces (quick e)) (timed t b) h
   quick_idle b h t i (Inside l r) = absurd (sleeps (sym i ∙ block_awake (quick e) (pieces (quick e)) (proved_quick e) (calm_in (quick e) r)))
-  quick_idle b h t i (Alone (AtTimer l) o) = absurd (sleeps (sym i ∙ timer_awake (quick e) b (now h) l o.0))
-  quick_idle b h t i (Alone (AtKey l) o) = absurd (sleeps (sym i ∙ key_awake (quick e) b (now h) l h.keys o.0))
-  quick_idle b h t i (Alone (AtSprite l) o) = Alone (AtSprite l) (sprite_timed (quick e) b (now h) t l i o.0, o.1)
+  quick_idle b h t i (Alone (AtTimer l) o) = absurd (sleeps (sym i ∙ timer_awake (quick e) b (now h) h.keys l o.0))
+  quick_idle b h t i (Alone (AtKey l) o) = absurd (sleeps (sym i ∙ key_awake (quick e) b (now h) h.keys l o.0))
+  quick_idle b h t i (Alone (AtSprite l) o) = Alone (AtSprite l) (sprite_timed (quick e) b (now h) h.keys t l i o.0, o.1)
 
   quick_starts : (cycle : ℕ) (b : Machine) (s : Lang) → FitsMachine b → Dispatches (quick e) b s → Row (quick e) (calm_pieces (quick e)) b (dispatched cycle s)
   quick_starts cycle b s f d =
@@ -132,7 +134,7 @@ module _ (e : Edition) where
 
   quick_shows : (b : Machine) (h : Since) → FitsMachine b → value b.regs.r.r2 < screen_start e → Row (quick e) (calm_pieces (quick e)) b h → Showing e b h
   quick_shows b h f below (Inside l r) = block_shows r f below
-  quick_shows b h f below (Alone l o) = row_shows b h (at_screen (quick e) l b h o)
+  quick_shows b h f below (Alone l o) = row_shows b h ((place_facts l).screen (quick e) b (now h) h.keys o.0)
 
   -- the instruction of a place writes nothing
   module _ (b : Machine) (u : Input) where
@@ -203,7 +205,7 @@ module _ (e : Edition) where
   quick_move_shows u b h f i g below (Inside l r) = next_shows r u g below
   quick_move_shows u b h f i g below (Alone l o) =
       above_shows b (moved (code (quick e)) u b) h f g (λ a low. ap (λ ram. slice_index ram a) (place_keeps b u l h i o))
-      (row_shows b h (at_screen (quick e) l b h o))
+      (row_shows b h ((place_facts l).screen (quick e) b (now h) h.keys o.0))
 
 -- ---- over the image
 

@@ -6,7 +6,6 @@ pub mod Exact
 pub mod Ticks
 pub mod Behind
 pub mod Calm
-pub mod Most
 pub mod Time
 pub mod Woken
 pub mod Next

@@ -9,14 +9,14 @@ use Rattle.rom_law.specs.Program.{Program}
 use Rattle.rom_law.specs.Rows.{Since, Row, now}
 use Rattle.rom_law.specs.Rows.Row.{Inside, Alone}
 use Rattle.rom_law.proofs.Kept.{block_awake}
-use Rattle.rom_rows.specs.KeyBlocks.{KeyPlace, key_place_at}
+use Rattle.rom_rows.specs.KeyBlocks.{KeyPlace, key_place_data}
 use Rattle.rom_rows.specs.KeyBlocks.KeyPlace.{SkipTest, KeyTest, KeyHeld}
 use Rattle.rom_rows.specs.Rom.{vip}
-use Rattle.rom_rows.specs.SpriteBlocks.{SpritePlace, Clearing, Painting, sprite_place_at, woken}
+use Rattle.rom_rows.specs.SpriteBlocks.{SpritePlace, Clearing, Painting, sprite_place_data, woken}
 use Rattle.rom_rows.specs.SpriteBlocks.SpritePlace.{ClearWait, ClearIdle, DrawWait, DrawIdle}
 use Rattle.rom_rows.specs.Table.{pieces}
 use Rattle.rom_rows.specs.Table.Place.{AtTimer, AtKey, AtSprite}
-use Rattle.rom_rows.specs.TimerBlocks.{TimerPlace, timer_place_at}
+use Rattle.rom_rows.specs.TimerBlocks.{TimerPlace, timer_place_data}
 use Rattle.rom_rows.specs.TimerBlocks.TimerPlace.{RandomCount, GetDelay, SetDelayPut, SetSoundPut}
 use Rattle.rom_run.proofs.Proved.{proved}
 
@@ -27,17 +27,17 @@ timed t b = record b { cycle = t }
 pub sleeps : true ≡ false → ⊥
 sleeps k = cc
 
-module _ (x : Program) (b : Machine) (s : Lang) where
-  pub timer_awake : (l : TimerPlace) → timer_place_at x l b s → b.regs.idle ≡ false
+module _ (x : Program) (b : Machine) (s : Lang) (sets : List Keys) where
+  pub timer_awake : (l : TimerPlace) → (timer_place_data l).at x b s sets → b.regs.idle ≡ false
   timer_awake RandomCount o = o.0.entered.holds.awake
   timer_awake GetDelay o = o.0.entered.holds.awake
   timer_awake SetDelayPut o = o.0.entered.holds.awake
   timer_awake SetSoundPut o = o.0.entered.holds.awake
 
-  pub key_awake : (l : KeyPlace) (sets : List Keys) → key_place_at x l b s sets → b.regs.idle ≡ false
-  key_awake (SkipTest down) sets o = o.0.holds.awake
-  key_awake (KeyTest turn) sets o = o.0.waiting.enters.entered.holds.awake
-  key_awake (KeyHeld turn looks) sets o = o.0.enters.entered.holds.awake
+  pub key_awake : (l : KeyPlace) → (key_place_data l).at x b s sets → b.regs.idle ≡ false
+  key_awake (SkipTest down) o = o.0.holds.awake
+  key_awake (KeyTest turn) o = o.0.waiting.enters.entered.holds.awake
+  key_awake (KeyHeld turn looks) o = o.0.enters.entered.holds.awake
 
   clearing_timed : (t a m : ℕ) → Clearing x a m (woken b) s → Clearing x a m (woken (timed t b)) s
   clearing_timed t a m o = record { holds = o.holds; inside = o.inside; clears = o.clears; p = o.p; r3 = o.r3; r4 = o.r4; pointer = o.pointer; rd = o.rd }
@@ -59,7 +59,7 @@ module _ (x : Program) (b : Machine) (s : Lang) where
         hit = o.hit;
       }
 
-  pub sprite_timed : (t : ℕ) (l : SpritePlace) → b.regs.idle ≡ true → sprite_place_at x l b s → sprite_place_at x l (timed t b) s
+  pub sprite_timed : (t : ℕ) (l : SpritePlace) → b.regs.idle ≡ true → (sprite_place_data l).at x b s sets → (sprite_place_data l).at x (timed t b) s sets
   sprite_timed t ClearWait i o = absurd (sleeps (sym i ∙ o.holds.awake))
   sprite_timed t ClearIdle i o = (clearing_timed t _ _ o.0, o.1)
   sprite_timed t DrawWait i o = absurd (sleeps (sym i ∙ o.holds.awake))
@@ -68,6 +68,6 @@ module _ (x : Program) (b : Machine) (s : Lang) where
 pub idle_cycle : (e : Edition) (b : Machine) (h : Since) (t : ℕ) → b.regs.idle ≡ true → Row (vip e) (pieces (vip e)) b h
     → Row (vip e) (pieces (vip e)) (timed t b) h
 idle_cycle e b h t i (Inside l r) = absurd (sleeps (sym i ∙ block_awake (vip e) (pieces (vip e)) (proved e) r))
-idle_cycle e b h t i (Alone (AtTimer l) o) = absurd (sleeps (sym i ∙ timer_awake (vip e) b (now h) l o.0))
-idle_cycle e b h t i (Alone (AtKey l) o) = absurd (sleeps (sym i ∙ key_awake (vip e) b (now h) l h.keys o.0))
-idle_cycle e b h t i (Alone (AtSprite l) o) = Alone (AtSprite l) (sprite_timed (vip e) b (now h) t l i o.0, o.1)
+idle_cycle e b h t i (Alone (AtTimer l) o) = absurd (sleeps (sym i ∙ timer_awake (vip e) b (now h) h.keys l o.0))
+idle_cycle e b h t i (Alone (AtKey l) o) = absurd (sleeps (sym i ∙ key_awake (vip e) b (now h) h.keys l o.0))
+idle_cycle e b h t i (Alone (AtSprite l) o) = Alone (AtSprite l) (sprite_timed (vip e) b (now h) h.keys t l i o.0, o.1)

@@ -23,15 +23,15 @@ use Rattle.rom_law.proofs.Language.{ticks_instr}
 use Rattle.rom_law.proofs.Schedules.{dispatch_by, halt_by}
 use Rattle.rom_rows.specs.Heads.{high_byte, low_byte}
 use Rattle.rom_rows.specs.Rom.{vip}
-use Rattle.rom_rows.specs.SpriteBlocks.{SpriteBlock, IsWaited, Clears, draw_time, sprite_moves}
+use Rattle.rom_rows.specs.SpriteBlocks.{SpriteBlock, IsWaited, Clears, draw_time}
 use Rattle.rom_rows.specs.SpriteBlocks.SpriteBlock.{Wipe, Wipe3, Wipe6, Wiped, Cleared, Line, LineLeft, LineRight, Drawn}
 use Rattle.rom_rows.specs.SpriteBlocks.SpritePlace.{ClearWait, ClearIdle, DrawWait, DrawIdle}
-use Rattle.rom_rows.specs.Table.{Head, pieces, waited_pieces}
+use Rattle.rom_rows.specs.Table.{Head, moves, pieces, waited_pieces}
 use Rattle.rom_rows.specs.Table.Block.{OfSprite}
 use Rattle.rom_rows.specs.Table.Place.{AtTimer, AtKey, AtSprite}
 use Rattle.rom_rows.proofs.Later.{before_ticks}
 use Rattle.rom_rows.proofs.Steps.{stop_ticks}
-use Rattle.rom_sprite.proofs.Screen.{few_rows}
+use Rattle.rom_rows.proofs.Most.{draw_most, few_rows}
 use Rattle.rom_timer.specs.Routine.{routine_cycles}
 use Rattle.rom_run.specs.Running.{IsBehind, Interval}
 use Rattle.rom_run.specs.Time.{Spends, WaitsBy, Woken, Timed, wait_time, since_return, since_window, most_changing}
@@ -39,9 +39,8 @@ use Rattle.rom_run.specs.Time.Timed.{Before, Waiting, Behind}
 use Rattle.rom_run.specs.Time.WaitsBy.{ToClear, ToDraw}
 use Rattle.rom_run.proofs.Behind.{waited_awake}
 use Rattle.rom_run.proofs.Exact.{woken_is, later_soon, due_behind, waits_take}
-use Rattle.rom_run.proofs.Most.{draw_most}
 use Rattle.rom_run.proofs.Proved.{proved}
-use Rattle.rom_run.proofs.Time.{few}
+use Rattle.rom_rows.proofs.Haste.{few}
 use Rattle.rom_run.proofs.Waits.{sleeps, timer_awake, key_awake}
 
 -- ---- where main code waits
@@ -75,8 +74,8 @@ draw_wait e h digit =
 
 pub row_waits : (e : Edition) (b : Machine) (h : Since) → b.regs.idle ≡ true → Row (vip e) (pieces (vip e)) b h → Waits e h
 row_waits e b h i (Inside l r) = absurd (sleeps (sym i ∙ block_awake (vip e) (pieces (vip e)) (proved e) r))
-row_waits e b h i (Alone (AtTimer l) o) = absurd (sleeps (sym i ∙ timer_awake (vip e) b (now h) l o.0))
-row_waits e b h i (Alone (AtKey l) o) = absurd (sleeps (sym i ∙ key_awake (vip e) b (now h) l h.keys o.0))
+row_waits e b h i (Alone (AtTimer l) o) = absurd (sleeps (sym i ∙ timer_awake (vip e) b (now h) h.keys l o.0))
+row_waits e b h i (Alone (AtKey l) o) = absurd (sleeps (sym i ∙ key_awake (vip e) b (now h) h.keys l o.0))
 row_waits e b h i (Alone (AtSprite ClearWait) o) = absurd (sleeps (sym i ∙ o.0.holds.awake))
 row_waits e b h i (Alone (AtSprite ClearIdle) o) =
     record {
@@ -106,7 +105,7 @@ module _ (e : Edition) where
   draw_then : (g h : Since) → h.state ≡ g.state → high_byte (now g) / 16 ≡ 13 → wait_time e h.state ≡ draw_time e (now g)
   draw_then g h same is = ap (wait_time e) same ∙ draw_wait e g is
 
-  head_few : (l : SpriteBlock) → IsWaited l → (c : Machine) (g h : Since) (j : ℕ) → h.state ≡ g.state → j < sprite_moves l
+  head_few : (l : SpriteBlock) → IsWaited l → (c : Machine) (g h : Since) (j : ℕ) → h.state ≡ g.state → j < moves (OfSprite l)
       → Head (vip e) (OfSprite l) c g → g.spent + 2 * j ≤ wait_time e h.state + most_changing
   head_few (Wipe k) w c g h j same i o = omega (arith, o.1.0, i, few_rows e, clear_then g h same o.0.0.clears)
   head_few (Wipe3 k) w c g h j same i o = omega (arith, o.1.0, i, few_rows e, clear_then g h same o.0.0.clears)

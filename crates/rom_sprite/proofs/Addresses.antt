@@ -1,5 +1,5 @@
 -- The addresses of these blocks and places.
-use Rattle.std.proofs.Common.{◌≡◌, ℕ, zero, suc, ◌+◌, ◌-◌, ◌*◌, ◌<◌, ◌≤◌, refl, ◌∙◌, ap, arith, List, [], ◌∷◌}
+use Rattle.std.proofs.Common.{◌≡◌, ℕ, zero, suc, ◌+◌, ◌-◌, ◌*◌, ◌<◌, ◌≤◌, refl, ◌∙◌, ap, arith, List, [], ◌∷◌, ◌++◌}
 use Rattle.machine.specs.Bank.{value}
 use Rattle.machine.specs.Instruction.{at}
 use Rattle.machine.specs.Board.{Machine}
@@ -8,16 +8,16 @@ use Rattle.chip8_image.specs.Labels.{at_cleared, at_row, at_row_byte, at_shift7,
 use Rattle.chip8_image.specs.declared.parts.Part.TheVariants.{Sprite}
 use Rattle.rom_law.specs.Rows.{Since}
 use Rattle.rom_rows.specs.Checks.Answer.{InGame, InFont, Nowhere}
-use Rattle.rom_rows.specs.SpriteBlocks.{SpriteBlock, sprite_addresses}
+use Rattle.rom_rows.specs.SpriteBlocks.{SpriteBlock, SpritePlace}
 use Rattle.rom_rows.specs.SpriteBlocks.SpriteBlock.{Clear, Wipe, Wipe3, Wipe6, Wiped, Cleared, Draw, DrawCheck, DrawFound, Place, Edge, Fits, Angle, Begin, Row, RowByte, Shift, Shifted, RowRight, RowStore, Ready, Line, LineLeft, LineRight, Drawn}
 use Rattle.rom_rows.specs.SpriteBlocks.SpritePlace.{ClearWait, ClearIdle, DrawWait, DrawIdle}
 use Rattle.rom_rows.specs.Table.{Head}
 use Rattle.rom_rows.specs.Table.Block.{OfSprite}
-use Rattle.rom_rows.proofs.Addresses.{Follows, runs_at_in, covers}
+use Rattle.rom_rows.specs.Table.Place.{AtSprite}
+use Rattle.rom_rows.proofs.Addresses.{Follows, runs_at_in, blocks_of, places_of, covers}
 use Rattle.rom_rows.proofs.Entry.{is_entered, on_3, is_on_3}
 use Rattle.rom_sprite.proofs.Rom.{both_is, both_fits, quick}
-use Rattle.rom_sprite.specs.Laws.{SpriteAddresses, SpritePlaceAddresses, SpriteCovers, SpritePiece, piece_moves, piece_addresses}
-use Rattle.rom_sprite.specs.Laws.SpritePiece.{InBlock, AtPlace}
+use Rattle.rom_sprite.specs.Laws.{SpriteAddresses, SpritePlaceAddresses, SpriteCovers}
 use Rattle.rom_sprite.proofs.Aim.{is_aiming, is_summing, is_resumed}
 use Rattle.rom_sprite.proofs.Clear.{is_clearing}
 use Rattle.rom_sprite.proofs.Law.{sprite_any}
@@ -26,7 +26,7 @@ use Rattle.rom_sprite.proofs.Prepare.{is_preparing}
 use Rattle.rom_sprite.specs.Code.{sprite_rom}
 
 sprite_follows : (e : Edition) (l : SpriteBlock) (b : Machine) (h : Since) → Head (quick e) (OfSprite l) b h
-    → Follows (quick e) (OfSprite l) (sprite_addresses l) b
+    → Follows (quick e) (OfSprite l) b
 sprite_follows e Clear b h o = record { same = _; is = is_entered o.0.0; follows = refl }
 sprite_follows e (Wipe k) b h o = record { same = _; is = is_clearing o.0.0; follows = refl }
 sprite_follows e (Wipe3 k) b h o = record { same = _; is = is_clearing o.0.0; follows = refl }
@@ -50,7 +50,7 @@ sprite_follows e (Shift r j) b h o = shift j (is_on_3 (at_shift7 + 6 * (7 - j)) 
     few : j ≤ 7
     few = omega (arith, o.0.4)
 
-    shift : (j : ℕ) → b ≡ on_3 (at_shift7 + 6 * (7 - j)) b → 0 < j → j ≤ 7 → Follows (quick e) (OfSprite (Shift r j)) (sprite_addresses (Shift r j)) b
+    shift : (j : ℕ) → b ≡ on_3 (at_shift7 + 6 * (7 - j)) b → 0 < j → j ≤ 7 → Follows (quick e) (OfSprite (Shift r j)) b
     shift zero is some l = absurd (omega (arith, some))
     shift (suc zero) is some l = record { same = _; is = is; follows = refl }
     shift (suc (suc zero)) is some l = record { same = _; is = is; follows = refl }
@@ -70,7 +70,7 @@ sprite_follows e (LineRight r) b h o = record { same = _; is = is_painting o.0.0
 sprite_follows e Drawn b h o = record { same = _; is = is_painting o.0; follows = refl }
 
 pub addresses : SpriteAddresses sprite_rom
-addresses e l = runs_at_in e (both_is e) (both_fits e) (OfSprite l) (sprite_addresses l) (sprite_any e l) (sprite_follows e l)
+addresses e l = runs_at_in e (both_is e) (both_fits e) (OfSprite l) (sprite_any e l) (sprite_follows e l)
 
 pub place_addresses : SpritePlaceAddresses sprite_rom
 place_addresses e ClearWait b h o = ap (at b.regs) o.0.p ∙ ap value o.0.r3
@@ -78,14 +78,16 @@ place_addresses e ClearIdle b h o = ap (at b.regs) o.0.0.p ∙ ap value o.0.0.r3
 place_addresses e DrawWait b h o = ap (at b.regs) o.0.p ∙ ap value o.0.r3
 place_addresses e DrawIdle b h o = ap (at b.regs) o.0.0.p ∙ ap value o.0.0.r3
 
-sprite_pieces : List SpritePiece
-sprite_pieces =
-    InBlock Clear ∷ InBlock (Wipe 0) ∷ InBlock (Wipe3 0) ∷ InBlock (Wipe6 0) ∷ InBlock (Wiped 0) ∷ InBlock Cleared ∷
-    InBlock Draw ∷ InBlock DrawCheck ∷ InBlock (DrawFound Nowhere) ∷ InBlock Place ∷ InBlock Edge ∷ InBlock Fits ∷ InBlock Angle ∷ InBlock Begin ∷
-    InBlock (Row 0) ∷ InBlock (RowByte 0) ∷ InBlock (Shift 0 7) ∷ InBlock (Shift 0 6) ∷ InBlock (Shift 0 5) ∷ InBlock (Shift 0 4) ∷ InBlock (Shift 0 3) ∷
-    InBlock (Shift 0 2) ∷ InBlock (Shift 0 1) ∷ InBlock (Shifted 0) ∷ InBlock (RowRight 0) ∷ InBlock (RowStore 0) ∷ InBlock Ready ∷ InBlock (Line 0) ∷
-    InBlock (LineLeft 0) ∷ InBlock (LineRight 0) ∷ InBlock Drawn ∷ AtPlace ClearWait ∷ AtPlace DrawWait ∷ []
+blocks : List SpriteBlock
+blocks =
+    Clear ∷ Wipe 0 ∷ Wipe3 0 ∷ Wipe6 0 ∷ Wiped 0 ∷ Cleared ∷ Draw ∷ DrawCheck ∷ DrawFound Nowhere ∷ Place ∷ Edge ∷ Fits ∷ Angle ∷ Begin ∷ Row 0 ∷
+    RowByte 0 ∷ Shift 0 7 ∷ Shift 0 6 ∷ Shift 0 5 ∷ Shift 0 4 ∷ Shift 0 3 ∷ Shift 0 2 ∷ Shift 0 1 ∷ Shifted 0 ∷ RowRight 0 ∷ RowStore 0 ∷ Ready ∷
+    Line 0 ∷ LineLeft 0 ∷ LineRight 0 ∷ Drawn ∷ []
+
+places : List SpritePlace
+places =
+    ClearWait ∷ DrawWait ∷ []
 
 pub covered : SpriteCovers
-unfolding sprite_pieces
-covered = covers SpritePiece piece_moves piece_addresses sprite_pieces Sprite refl
+unfolding blocks places
+covered = covers Sprite (blocks_of (λ l. OfSprite l) blocks ++ places_of (λ l. AtSprite l) places) refl

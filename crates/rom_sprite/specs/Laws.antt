@@ -6,7 +6,7 @@ use Rattle.chip8_lang.specs.declared.view.Edition.{Edition}
 use Rattle.chip8_image.specs.declared.parts.Part.TheVariants.{Sprite}
 use Rattle.rom_law.specs.Rows.{Since}
 use Rattle.rom_rows.specs.Rom.{program_of}
-use Rattle.rom_rows.specs.SpriteBlocks.{SpriteBlock, SpritePlace, sprite_moves, sprite_addresses, sprite_place_address}
+use Rattle.rom_rows.specs.SpriteBlocks.{SpriteBlock, SpritePlace, sprite_place_data}
 use Rattle.rom_rows.specs.Table.{At, BlockRows, AwakeRows, TickRows}
 use Rattle.rom_rows.specs.Table.Block.{OfSprite}
 use Rattle.rom_rows.specs.Table.Place.{AtSprite}
@@ -25,28 +25,14 @@ SpriteTicks rom = (e : Edition) (l : SpritePlace) → TickRows (program_of e (ro
 
 -- in the rows of a block the program counter is at the block's addresses in turn, and at a place at its address
 abbrev pub SpriteAddresses : (Edition → List ℕ) → Type 0
-SpriteAddresses rom = (e : Edition) (l : SpriteBlock) → RunsAt (program_of e (rom e)) (OfSprite l) (sprite_addresses l)
+SpriteAddresses rom = (e : Edition) (l : SpriteBlock) → RunsAt (program_of e (rom e)) (OfSprite l)
 
 abbrev pub SpritePlaceAddresses : (Edition → List ℕ) → Type 0
 SpritePlaceAddresses rom =
     (e : Edition) (l : SpritePlace) (b : Machine) (h : Since)
     → At (program_of e (rom e)) (AtSprite l) b h
-    → at b.regs b.regs.p ≡ sprite_place_address l
-
--- a block or a place
-pub data SpritePiece : Type 0 where
-  InBlock : (l : SpriteBlock) → SpritePiece
-  AtPlace : (l : SpritePlace) → SpritePiece
-
--- how many instructions it has, and where they begin
-abbrev pub piece_moves : SpritePiece → ℕ
-piece_moves (InBlock l) = sprite_moves l
-piece_moves (AtPlace l) = 1
-
-abbrev pub piece_addresses : SpritePiece → List ℕ
-piece_addresses (InBlock l) = sprite_addresses l
-piece_addresses (AtPlace l) = sprite_place_address l ∷ []
+    → at b.regs b.regs.p ≡ (sprite_place_data l).address
 
 -- each instruction of that code is in some block or at some place
 abbrev pub SpriteCovers : Type 0
-SpriteCovers = Covers SpritePiece piece_moves piece_addresses Sprite
+SpriteCovers = Covers Sprite

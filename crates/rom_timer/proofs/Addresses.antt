@@ -1,5 +1,5 @@
 -- The addresses of these blocks and places.
-use Rattle.std.proofs.Common.{◌≡◌, ℕ, refl, ◌∙◌, ap, List, [], ◌∷◌}
+use Rattle.std.proofs.Common.{◌≡◌, ℕ, refl, ◌∙◌, ap, List, [], ◌∷◌, ◌++◌}
 use Rattle.machine.specs.Bank.{word_of, value}
 use Rattle.machine.specs.Instruction.{at}
 use Rattle.machine.specs.Board.{Machine}
@@ -9,20 +9,20 @@ use Rattle.chip8_image.specs.declared.parts.Part.TheVariants.{Timer}
 use Rattle.rom_law.specs.Program.{Program}
 use Rattle.rom_law.specs.Rows.{Since, now}
 use Rattle.rom_rows.specs.Heads.{Entered}
-use Rattle.rom_rows.specs.TimerBlocks.{TimerBlock, timer_addresses}
+use Rattle.rom_rows.specs.TimerBlocks.{TimerBlock, TimerPlace}
 use Rattle.rom_rows.specs.TimerBlocks.TimerBlock.{Random, RandomMix, GetDelayPut, SetDelay, SetDelayEnd, SetSound, SetSoundEnd}
 use Rattle.rom_rows.specs.TimerBlocks.TimerPlace.{RandomCount, GetDelay, SetDelayPut, SetSoundPut}
 use Rattle.rom_rows.specs.Table.{Head}
 use Rattle.rom_rows.specs.Table.Block.{OfTimer}
-use Rattle.rom_rows.proofs.Addresses.{Follows, runs_at, covers}
+use Rattle.rom_rows.specs.Table.Place.{AtTimer}
+use Rattle.rom_rows.proofs.Addresses.{Follows, runs_at, blocks_of, places_of, covers}
 use Rattle.rom_rows.proofs.Entry.{is_entered, on_3, is_on_3}
 use Rattle.rom_timer.proofs.Rom.{both_is, both_fits, quick}
-use Rattle.rom_timer.specs.Laws.{TimerAddresses, TimerPlaceAddresses, TimerCovers, TimerPiece, piece_moves, piece_addresses}
-use Rattle.rom_timer.specs.Laws.TimerPiece.{InBlock, AtPlace}
+use Rattle.rom_timer.specs.Laws.{TimerAddresses, TimerPlaceAddresses, TimerCovers}
 use Rattle.rom_timer.proofs.Law.{timer_block}
 use Rattle.rom_timer.specs.Code.{timer_rom}
 
-timer_follows : (e : Edition) (l : TimerBlock) (b : Machine) (h : Since) → Head (quick e) (OfTimer l) b h → Follows (quick e) (OfTimer l) (timer_addresses l) b
+timer_follows : (e : Edition) (l : TimerBlock) (b : Machine) (h : Since) → Head (quick e) (OfTimer l) b h → Follows (quick e) (OfTimer l) b
 timer_follows e Random b h o = record { same = _; is = is_entered o.0.entered; follows = refl }
 timer_follows e RandomMix b h o = record { same = _; is = is_entered o.0.0.entered; follows = refl }
 timer_follows e GetDelayPut b h o = record { same = _; is = is_entered o.0.0.entered; follows = refl }
@@ -32,7 +32,7 @@ timer_follows e SetSound b h o = record { same = _; is = is_entered o.0.0.entere
 timer_follows e SetSoundEnd b h o = record { same = on_3 at_set_sound_end b; is = is_on_3 at_set_sound_end b o.0.done.p o.0.done.r3; follows = refl }
 
 pub addresses : TimerAddresses timer_rom
-addresses e l = runs_at e (both_is e) (both_fits e) (OfTimer l) (timer_addresses l) (timer_block e l) (timer_follows e l)
+addresses e l = runs_at e (both_is e) (both_fits e) (OfTimer l) (timer_block e l) (timer_follows e l)
 
 -- the program counter in a routine
 counter : {x : Program} (a : ℕ) (b : Machine) (h : Since) → Entered x a b (now h) → at b.regs b.regs.p ≡ value (word_of a)
@@ -44,11 +44,14 @@ place_addresses e GetDelay b h o = counter _ b h o.0.0.entered
 place_addresses e SetDelayPut b h o = counter _ b h o.0.0.entered
 place_addresses e SetSoundPut b h o = counter _ b h o.0.0.entered
 
-timer_pieces : List TimerPiece
-timer_pieces =
-    InBlock Random ∷ InBlock RandomMix ∷ InBlock GetDelayPut ∷ InBlock SetDelay ∷ InBlock SetDelayEnd ∷ InBlock SetSound ∷ InBlock SetSoundEnd ∷
-    AtPlace RandomCount ∷ AtPlace GetDelay ∷ AtPlace SetDelayPut ∷ AtPlace SetSoundPut ∷ []
+blocks : List TimerBlock
+blocks =
+    Random ∷ RandomMix ∷ GetDelayPut ∷ SetDelay ∷ SetDelayEnd ∷ SetSound ∷ SetSoundEnd ∷ []
+
+places : List TimerPlace
+places =
+    RandomCount ∷ GetDelay ∷ SetDelayPut ∷ SetSoundPut ∷ []
 
 pub covered : TimerCovers
-unfolding timer_pieces
-covered = covers TimerPiece piece_moves piece_addresses timer_pieces Timer refl
+unfolding blocks places
+covered = covers Timer (blocks_of (λ l. OfTimer l) blocks ++ places_of (λ l. AtTimer l) places) refl

@@ -6,7 +6,7 @@ use Rattle.chip8_lang.specs.declared.view.Edition.{Edition}
 use Rattle.chip8_image.specs.declared.parts.Part.TheVariants.{Timer}
 use Rattle.rom_law.specs.Rows.{Since}
 use Rattle.rom_rows.specs.Rom.{program_of}
-use Rattle.rom_rows.specs.TimerBlocks.{TimerBlock, TimerPlace, timer_moves, timer_addresses, timer_place_address}
+use Rattle.rom_rows.specs.TimerBlocks.{TimerBlock, TimerPlace, timer_place_data}
 use Rattle.rom_rows.specs.Table.{At, BlockRows, PlaceRows}
 use Rattle.rom_rows.specs.Table.Block.{OfTimer}
 use Rattle.rom_rows.specs.Table.Place.{AtTimer}
@@ -21,28 +21,14 @@ TimerPlaceRows rom = (e : Edition) (l : TimerPlace) → PlaceRows (program_of e 
 
 -- in the rows of a block the program counter is at the block's addresses in turn, and at a place at its address
 abbrev pub TimerAddresses : (Edition → List ℕ) → Type 0
-TimerAddresses rom = (e : Edition) (l : TimerBlock) → RunsAt (program_of e (rom e)) (OfTimer l) (timer_addresses l)
+TimerAddresses rom = (e : Edition) (l : TimerBlock) → RunsAt (program_of e (rom e)) (OfTimer l)
 
 abbrev pub TimerPlaceAddresses : (Edition → List ℕ) → Type 0
 TimerPlaceAddresses rom =
     (e : Edition) (l : TimerPlace) (b : Machine) (h : Since)
     → At (program_of e (rom e)) (AtTimer l) b h
-    → at b.regs b.regs.p ≡ timer_place_address l
-
--- a block or a place
-pub data TimerPiece : Type 0 where
-  InBlock : (l : TimerBlock) → TimerPiece
-  AtPlace : (l : TimerPlace) → TimerPiece
-
--- how many instructions it has, and where they begin
-abbrev pub piece_moves : TimerPiece → ℕ
-piece_moves (InBlock l) = timer_moves l
-piece_moves (AtPlace l) = 1
-
-abbrev pub piece_addresses : TimerPiece → List ℕ
-piece_addresses (InBlock l) = timer_addresses l
-piece_addresses (AtPlace l) = timer_place_address l ∷ []
+    → at b.regs b.regs.p ≡ (timer_place_data l).address
 
 -- each instruction of that code is in some block or at some place
 abbrev pub TimerCovers : Type 0
-TimerCovers = Covers TimerPiece piece_moves piece_addresses Timer
+TimerCovers = Covers Timer
