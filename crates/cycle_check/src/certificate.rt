@@ -54,13 +54,6 @@ impl Draft {
         self.lines.as_slice()
     }
 
-    // Whether an address is above that of the last line.
-    fn is_behind(&self, address: u16) -> bool
-        ensures { result ≡ is_behind self.now.lines address }
-    {
-        is_behind(self.lines.as_slice(), address)
-    }
-
     // Adds the line of an address behind the others.
     fn push(&mut self, line: Line) -> Result<(), AllocError>
         requires { is_behind self.old.lines line.address ≡ true }
@@ -149,7 +142,7 @@ fn read_statement(before: &Draft, words: Words) -> Result<Statement, CertCause>
         None => Ok(Statement::Within(read_bound(words)?)),
         Some(_) => {
             let line = read_line(words)?;
-            if !before.is_behind(line.address) {
+            if !is_behind(before.lines(), line.address) {
                 return Err(CertCause::Order);
             }
             Ok(Statement::At(line))

@@ -2,7 +2,7 @@
 
 ghost use Rattle.std.specs.Prelude.{◌≡◌, ◌+◌, ◌<◌, ◌≤◌, true, false, nat_lt, length};
 ghost use Rattle.std.specs.List.{AllWithin};
-ghost use Rattle.cycle_check.specs.Closed.{admits, are_ways_closed, byte_at, bytes_at, cause_at, counter_after, fault_in, first_from, fits_x, holds_at, instruction_at, is_allowed, is_apart, is_any, is_closed, is_copied, is_entered, is_kept, is_loaded, is_open, is_shown, is_way_closed, known_d, left, lets_through, line_at, line_behind, loads_not_zero, pays_for, takes_all, was_not_zero, ways_from};
+ghost use Rattle.cycle_check.specs.Closed.{admits, byte_at, bytes_at, cause_at, counter_after, fault_in, first_from, fits_x, holds_at, instruction_at, is_allowed, is_apart, is_closed, is_copied, is_entered, is_kept, is_loaded, is_open, is_shown, is_way_closed, known_d, left, lets_through, line_at, line_behind, loads_not_zero, pays_for, takes_all, was_not_zero, ways_from};
 ghost use Rattle.cycle_check.specs.Reading.{AreRising};
 
 use crate::fault::CertCause;
@@ -335,22 +335,9 @@ pub fn is_closed(bound: &Bound, lines: &[Line], line: &Line, instruction: &Instr
     ensures { result ≡ is_closed bound.now lines.now line.now instruction.now }
 {
     let ways = ways_from(bound, line.address, instruction);
-    are_ways_closed(bound.k, lines, line, instruction, ways)
-}
-
-fn are_ways_closed(
-    k: u8,
-    lines: &[Line],
-    line: &Line,
-    instruction: &Instruction,
-    ways: Ways,
-) -> bool
-    requires { AreRising lines.now }
-    ensures { result ≡ are_ways_closed k lines.now line.now instruction.now ways }
-{
-    let first = is_way_closed(k, lines, line, instruction, ways.first);
+    let first = is_way_closed(bound.k, lines, line, instruction, ways.first);
     match ways.second {
-        Some(second) => first && is_way_closed(k, lines, line, instruction, second),
+        Some(second) => first && is_way_closed(bound.k, lines, line, instruction, second),
         None => first,
     }
 }
@@ -401,13 +388,7 @@ fn is_entered(bound: &Bound, lines: &[Line]) -> bool
 fn takes_all(bound: &Bound, line: &Line) -> bool
     ensures { result ≡ takes_all bound.now line.now }
 {
-    line.x.is_none() && is_any(line.fact) && left(line, 255) <= u64::from(bound.limit)
-}
-
-fn is_any(fact: Fact) -> bool
-    ensures { result ≡ is_any fact }
-{
-    matches!(fact, Fact::Any)
+    line.x.is_none() && matches!(line.fact, Fact::Any) && left(line, 255) <= u64::from(bound.limit)
 }
 
 /// The first fault behind the grammar: its cause, and the place of its statement, which is 0 for the bound and 1 for the first line.

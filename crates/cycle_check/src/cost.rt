@@ -1,7 +1,7 @@
 //! What is left at each line: the least STEP of a part that pays a turn of it, and then the least bases.
 
 use crate::closed::{admits, counter_after, is_open, known_d, left};
-use crate::graph::{Change, Edge, Graph, Node};
+use crate::graph::{Edge, Graph, Node};
 use crate::parts::Part;
 
 /// The values of the counter among which is one at which a line costs most: what it costs is straight between 1 and 254.
@@ -84,7 +84,7 @@ fn rests(graph: &mut Graph, places: &[usize], step: u32) -> bool {
 
 fn takes(graph: &Graph, place: usize) -> bool {
     match graph.node(place) {
-        Some(node) => node.change(graph.k) == Change::Takes,
+        Some(node) => node.takes(graph.k),
         None => false,
     }
 }
@@ -148,20 +148,13 @@ fn need_on(graph: &Graph, node: &Node, edge: Edge, counter: u8) -> u64 {
         return 0;
     }
     let own = u64::from(node.instruction.cycles);
-    match edge.to {
-        Some(to) => own.saturating_add(left_at(graph, to, counter_behind(graph, node, counter))),
-        None => own,
-    }
-}
-
-// The counter behind a line, of those that may follow the one that costs most.
-fn counter_behind(graph: &Graph, node: &Node, counter: u8) -> u8 {
-    counter_after(graph.k, &node.instruction, node.line.fact, counter).unwrap_or(255)
-}
-
-fn left_at(graph: &Graph, place: usize, counter: u8) -> u64 {
-    match graph.node(place) {
-        Some(node) => left(&node.line, counter),
-        None => 0,
-    }
+    let Some(to) = edge.to else {
+        return own;
+    };
+    let Some(behind) = graph.node(to) else {
+        return own;
+    };
+    // of the counters that may follow the greatest costs most
+    let worst = counter_after(graph.k, &node.instruction, node.line.fact, counter).unwrap_or(255);
+    own.saturating_add(left(&behind.line, worst))
 }

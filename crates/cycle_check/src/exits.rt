@@ -2,16 +2,15 @@
 
 ghost use Rattle.std.specs.Prelude.{◌≡◌, ◌%◌, ◌++◌, OnOk, IfOk, Some, None, option_map, true, false};
 ghost use Rattle.std.specs.List.{All};
-ghost use Rattle.std.specs.Option.{option_and_then};
 ghost use Rattle.vip_byte.specs.Room.{HasRoom};
 ghost use Rattle.cycle_check.specs.Closed.{ways_at};
-ghost use Rattle.cycle_check.specs.Exits.{end_text, exit_line, exit_on, exits, exits_at, exits_with, in_order, next_of};
+ghost use Rattle.cycle_check.specs.Exits.{end_text, exit_line, exit_on, exits, exits_at, exits_with, in_order};
 ghost use Rattle.cycle_check.specs.Found.{leaves_rom};
 ghost use Rattle.cycle_check.specs.Reading.{AreRising};
 
 use crate::closed::{bytes_at, instruction_at, lets_through, line_behind, ways_from};
 use crate::grammar::{Bound, Line};
-use crate::table::{Way, Ways};
+use crate::table::Way;
 use std::alloc::{AllocError, Global};
 use vip_byte::{Buffer, hex4, put};
 use vip_isa::instruction_text;
@@ -54,13 +53,6 @@ impl Exit {
                 put(into, instruction_text(self.address, self.bytes).as_slice());
             }
         }
-    }
-
-    // Its next address, or 0 without one.
-    fn next(&self) -> u16
-        ensures { result ≡ next_of self.now }
-    {
-        self.to.unwrap_or(0)
     }
 
     /// Whether it doesn't lead to an address of the ROM.
@@ -107,18 +99,11 @@ fn push_exits(
     let instruction = instruction_at(rom, line.address);
     let ways = ways_from(bound, line.address, &instruction);
     let first = exit_on(rom, lines, line, ways.first);
-    let second = second_exit(rom, lines, line, ways);
-    push_in_order(found, first, second)
-}
-
-fn second_exit(rom: &[u8], lines: &[Line], line: &Line, ways: Ways) -> Option<Exit>
-    requires { AreRising lines.now }
-    ensures { result ≡ option_and_then (λ way. exit_on rom.now lines.now line.now way) ways.second }
-{
-    match ways.second {
+    let second = match ways.second {
         Some(second) => exit_on(rom, lines, line, second),
         None => None,
-    }
+    };
+    push_in_order(found, first, second)
 }
 
 // Appends one or two exits by their next address, each once.
@@ -150,7 +135,7 @@ fn push_some(found: &mut Vec<Exit>, exit: Option<Exit>) -> Result<(), AllocError
 fn push_both(found: &mut Vec<Exit>, one: Exit, other: Exit) -> Result<(), AllocError>
     ensures { OnOk result (found.new.items ≡ found.old.items ++ in_order (Some one) (Some other)) }
 {
-    let (next, behind) = (one.next(), other.next());
+    let (next, behind) = (one.to.unwrap_or(0), other.to.unwrap_or(0));
     if next == behind {
         found.extend_from_slice(&[one])
     } else if next < behind {

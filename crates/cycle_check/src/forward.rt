@@ -155,8 +155,7 @@ impl Forward<'_> {
         requires { IsTrueOf self.now }
         ensures { IfSome result (IsKnown self.now.rom.now self.now.bound address) }
     {
-        let place = place_of(address)?;
-        match self.known.get(place) {
+        match self.known.get(place_of(address)?) {
             Some(known) => *known,
             None => None,
         }

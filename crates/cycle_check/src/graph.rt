@@ -6,8 +6,8 @@ use crate::closed::{Instruction, instruction_at, lets_through, ways_from};
 use crate::forward::{Forward, ROM_SIZE, place_of};
 use crate::grammar::{Bound, Fact, Line};
 use crate::table::{Way, When};
+use crate::turn::{assigns_low, takes_one};
 use std::alloc::{AllocError, Global};
-use vip_isa::Kind;
 
 /// A way that the fact of a line lets through, to the line at a place in the ROM, or to none.
 #[derive(Clone, Copy)]
@@ -24,38 +24,18 @@ pub struct Node {
     pub edges: [Option<Edge>; 2],
 }
 
-/// What an instruction does to the counter.
-#[derive(Clone, Copy, PartialEq, Eq)]
-pub enum Change {
-    /// Nothing.
-    Keeps,
-    /// It takes one of it.
-    Takes,
-    /// It may give it another value.
-    Assigns,
-}
-
 impl Node {
-    /// What the instruction does to the counter in a register.
-    pub fn change(&self, k: u8) -> Change {
-        if self.instruction.op.n != k {
-            return Change::Keeps;
-        }
-        match (self.instruction.op.kind, self.line.fact) {
-            (Kind::Dec, Fact::NonZero) => Change::Takes,
-            (Kind::Dec | Kind::Inc | Kind::Lda | Kind::Plo, _) => Change::Assigns,
-            _ => Change::Keeps,
-        }
+    /// Whether the instruction takes one from the counter in a register, which isn't 0 there.
+    pub fn takes(&self, k: u8) -> bool {
+        self.instruction.op.n == k
+            && takes_one(self.instruction.op.kind)
+            && matches!(self.line.fact, Fact::NonZero)
     }
 
-    /// The places that it leads to.
-    pub fn targets(&self) -> [Option<usize>; 2] {
-        [target_of(self.edges[0]), target_of(self.edges[1])]
+    /// Whether it may give the counter another value.
+    pub fn assigns(&self, k: u8) -> bool {
+        self.instruction.op.n == k && assigns_low(self.instruction.op.kind) && !self.takes(k)
     }
-}
-
-fn target_of(edge: Option<Edge>) -> Option<usize> {
-    edge?.to
 }
 
 /// The lines of a routine by their place in the ROM.
@@ -118,10 +98,10 @@ impl Graph {
         }
     }
 
-    // The places that a place leads to, by any of its ways, or only where it doesn't take from the counter.
-    fn targets(&self, place: usize, counts: bool) -> [Option<usize>; 2] {
+    // The ways from a place, all of them, or only where it doesn't take from the counter.
+    fn edges(&self, place: usize, counts: bool) -> [Option<Edge>; 2] {
         match self.node(place) {
-            Some(node) if counts || node.change(self.k) != Change::Takes => node.targets(),
+            Some(node) if counts || !node.takes(self.k) => node.edges,
             _ => [None, None],
         }
     }
@@ -140,8 +120,13 @@ impl Graph {
             let Some(place) = waiting.pop() else {
                 break;
             };
-            for target in self.targets(place, counts) {
-                if let Some(target) = target
+            for edge in self.edges(place, counts) {
+                if let Some(
+                    Edge {
+                        to: Some(target),
+                        ..
+                    },
+                ) = edge
                     && meet(&mut sources, target, place)
                 {
                     waiting.push(target)?;

@@ -1,7 +1,7 @@
 //! The strongly connected parts of a routine, from its leaves back, and the turns in them that aren't counted.
 
 use crate::forward::ROM_SIZE;
-use crate::graph::{Change, Graph};
+use crate::graph::Graph;
 use std::alloc::{AllocError, Global};
 
 /// A line's place in the order in which costs are found.
@@ -76,7 +76,13 @@ fn is_marked(marks: &[bool], place: usize) -> bool {
 }
 
 fn count_marked(marks: &[bool]) -> usize {
-    marks.iter().filter(|marked| **marked).count()
+    let mut count = 0usize;
+    for marked in marks {
+        if *marked {
+            count = count.saturating_add(1);
+        }
+    }
+    count
 }
 
 /// Finds the parts of a routine.
@@ -91,7 +97,7 @@ pub fn find_parts(alloc: Global, graph: &Graph) -> Result<Found, AllocError> {
         if is_marked(marks.as_slice(), place) {
             return turn_at(alloc, graph, place, false);
         }
-        if node.change(graph.k) == Change::Assigns && reach.leads(place, place) {
+        if node.assigns(graph.k) && reach.leads(place, place) {
             return turn_at(alloc, graph, place, true);
         }
         members.push(Member {

@@ -14,17 +14,21 @@ use vip_isa::Kind;
 fn goes_to(way: Way, to: u16) -> bool
     ensures { result ≡ true → way.to ≡ Some to }
 {
-    way.to == Some(u32::from(to))
+    match way.to {
+        Some(address) => address == u32::from(to),
+        None => false,
+    }
 }
 
 /// Whether an instruction of this kind assigns the low byte of the register that it names.
-fn assigns_low(kind: Kind) -> bool
+pub fn assigns_low(kind: Kind) -> bool
     ensures { result ≡ assigns_low kind }
 {
     matches!(kind, Kind::Inc | Kind::Dec | Kind::Lda | Kind::Plo)
 }
 
-fn takes_one(kind: Kind) -> bool
+/// Whether it takes one from it.
+pub fn takes_one(kind: Kind) -> bool
     ensures { result ≡ takes_one kind }
 {
     matches!(kind, Kind::Dec)

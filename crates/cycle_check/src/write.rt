@@ -20,7 +20,7 @@ fn put_digit(into: &mut Buffer, digit: u8)
     ensures items { into.new.items ≡ into.old.items ++ digit_text digit }
     ensures len { array_vec_len into.new ≡ array_vec_len into.old + 1 }
 {
-    put(into, &hex2(digit)[1..]);
+    put(into, &[hex2(digit)[1]]);
 }
 
 // Appends `within ENTRY P K LIMIT`.
