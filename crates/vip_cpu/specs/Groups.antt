@@ -3,8 +3,8 @@ use Rattle.std.specs.Prelude.{ℕ, if◌then◌else◌, Bool, true, false}
 use Rattle.machine.specs.Opcodes.{kind_of, cycles_of}
 use Rattle.machine.specs.declared.Kind.{Kind}
 use Rattle.machine.specs.declared.Kind.TheVariants.{Idl, Ldn, Inc, Dec, Br, Bq, Bz, Bdf, B1, B2, B3, B4, Skp, Bnq, Bnz, Bnf, Bn1, Bn2, Bn3, Bn4, Lda, Str, Irx, Out, Undefined, Inp, Ret, Dis, Ldxa, Stxd, Adc, Sdb, Shrc, Smb, Sav, Mark, Req, Seq, Adci, Sdbi, Shlc, Smbi, Glo, Ghi, Plo, Phi, Lbr, Lbq, Lbz, Lbdf, Nop, Lsnq, Lsnz, Lsnf, Lskp, Lbnq, Lbnz, Lbnf, Lsie, Lsq, Lsz, Lsdf, Sep, Sex, Ldx, Or, And, Xor, Add, Sd, Shr, Sm, Ldi, Ori, Ani, Xri, Adi, Sdi, Shl, Smi}
-use Rattle.vip_cpu.specs.declared.group.Group.{Group}
-use Rattle.vip_cpu.specs.declared.group.Group.TheVariants.{Memory, Register, Logic, Arithmetic, ShortBranch, LongBranch, Skip, Control, InputOutput}
+use Rattle.vip_cpu.specs.declared.execute.Group.{Group}
+use Rattle.vip_cpu.specs.declared.execute.Group.TheVariants.{Memory, Register, Logic, Arithmetic, ShortBranch, LongBranch, Skip, Control, InputOutput}
 
 abbrev pub group_of : Kind → Group
 group_of Ldn = Memory

@@ -10,8 +10,7 @@ ghost use Rattle.vip_cpu.specs.Parts.{regs_of};
 
 use crate::bus::Bus;
 use crate::execute::execute;
-use crate::parts::Parts;
-use crate::registers::Registers;
+use crate::registers::{Parts, Registers};
 use std::marker::Model;
 use vip_isa::{cycles, decode};
 

@@ -46,12 +46,9 @@
 mod bus;
 mod cpu;
 mod execute;
-mod group;
-mod parts;
 mod registers;
-mod scratchpad;
 
 pub use bus::Bus;
 pub use cpu::{Cpu, Did, Next, Phase};
-pub use group::plain_cycles;
-pub use parts::Parts;
+pub use execute::plain_cycles;
+pub use registers::Parts;

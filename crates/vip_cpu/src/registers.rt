@@ -1,15 +1,89 @@
 //! The registers of the CDP1802, and what instructions, DMA and interrupts make of them.
 
 ghost use Rattle.std.specs.Prelude.{◌≡◌, ℕ, ◌+◌, ◌-◌, ◌*◌, ◌/◌, ◌%◌, ◌<◌, ◌==◌, if◌then◌else◌, true, false};
-ghost use Rattle.machine.specs.Bank.{word, word_of, up, get};
+ghost use Rattle.machine.specs.Bank.{word, word_of, up, get, put, zeros, bank_of};
 ghost use Rattle.machine.specs.Instruction.{Regs, at, with_reg, stepped, stepped_back, loaded, df_d, regs_after_reset, after_dma, interrupted, branched, long_branched, skipped, returned, marked};
-ghost use Rattle.machine.specs.Ranges.{FitsRegs};
+ghost use Rattle.machine.specs.Ranges.{FitsBank, FitsRegs};
 ghost use Rattle.vip_cpu.specs.Bit.{bit};
 ghost use Rattle.vip_cpu.specs.Parts.{regs_of};
 
-use crate::parts::Parts;
-use crate::scratchpad::Scratchpad;
 use std::marker::Model;
+
+/// The registers that a processor is made of, at a boundary. Interrupts are then enabled, and it doesn't idle.
+#[derive(Clone, Copy)]
+pub struct Parts {
+    /// R(0) to R(F).
+    pub r: [u16; 16],
+    /// D, the accumulator.
+    pub d: u8,
+    /// T, which holds (X,P) after an interrupt or MARK.
+    pub t: u8,
+    /// X, the number of the data pointer, below 16.
+    pub x: u8,
+    /// P, the number of the program counter, below 16.
+    pub p: u8,
+    /// DF, the carry of D.
+    pub df: bool,
+    /// Q, the output flip-flop.
+    pub q: bool,
+}
+
+/// R(0) to R(F), seen as words of two bytes.
+#[derive(Drop)]
+struct Scratchpad {
+    numbers: [u16; 16],
+}
+
+impl Model for Scratchpad {
+    ghost use Rattle.std.specs.Prelude.{◌≡◌, length};
+    ghost use Rattle.machine.specs.Bank.{Bank, bank_of};
+
+    ghost Value = { Bank };
+
+    ghost view = { λ a. bank_of a.numbers };
+
+    ghost invariant = { λ a. length a.numbers ≡ 16 };
+}
+
+/// Numbers of 16 bits are words of two bytes.
+fn words(numbers: &[u16])
+    ensures { FitsBank (bank_of numbers.now) }
+{}
+
+#[tactic(auto, using(crate::proofs::Banks::of_banks))]
+impl Scratchpad {
+    /// All 0.
+    fn new() -> Scratchpad
+        ensures { result ≡ zeros }
+    {
+        Scratchpad { numbers: [0; 16] }
+    }
+
+    /// The sixteen numbers, R(0) first.
+    fn of(numbers: [u16; 16]) -> Scratchpad
+        ensures bank { result ≡ bank_of numbers }
+        ensures fits { FitsBank result }
+    {
+        words(&numbers);
+        Scratchpad { numbers }
+    }
+
+    /// R(n).
+    fn get(&self, n: u8) -> u16
+        requires { n < 16 }
+        ensures { get self.now n ≡ word_of result }
+    {
+        self.numbers[usize::from(n % 16)]
+    }
+
+    /// R(n) = number.
+    fn set(&mut self, n: u8, number: u16)
+        requires { n < 16 }
+        ensures { self.new ≡ put self.old n (word_of number) }
+    {
+        self.numbers[usize::from(n % 16)] = number;
+    }
+}
 
 /// All registers of the processor, and whether it idles.
 #[derive(Drop)]

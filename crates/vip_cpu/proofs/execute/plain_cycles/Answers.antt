@@ -1,8 +1,8 @@
 use Rattle.std.proofs.Common.{◌<◌, get_or, refl, eqb, eqb-true, arith}
 use Rattle.vip_isa.proofs.Below.{at-passes_below}
 use Rattle.vip_cpu.specs.Groups.{plain_cycles}
-use Rattle.vip_cpu.specs.declared.group.TheConstants.{PLAIN_CYCLES}
-use Rattle.vip_cpu.proofs.group.plain_cycles.Goals as goal
+use Rattle.vip_cpu.specs.declared.execute.TheConstants.{PLAIN_CYCLES}
+use Rattle.vip_cpu.proofs.execute.plain_cycles.Goals as goal
 
 pub returns : goal.returns
 returns c =
