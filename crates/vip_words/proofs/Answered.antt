@@ -1,24 +1,24 @@
 -- What is read from the matches is what the rules give.
+use Rattle.std.proofs.Math.Path.{fun_ext}
 use Rattle.std.proofs.Common.{◌≡◌, ◌≢◌, ◌∙◌, ap, sym, subst, refl, arith, ◌<◌, ◌≤◌, ℕ, List, [], ◌∷◌, Bool, true, false, Option, Some, None, String, ◌-◌, drop, length, length-drop, take, map, string_bytes, codes}
 use Rattle.std.proofs.lemmas.Bool.{eqb-true}
 use Rattle.std.proofs.lemmas.List.{take_all}
 use Rattle.std.specs.List.{list_all}
-use Rattle.std.specs.Prelude.{if◌then◌else◌, option_and_then, slice_get, option_map}
+use Rattle.std.specs.Prelude.{if◌then◌else◌, option_and_then, slice_get}
 use Rattle.clap.specs.Kinds.{Kinds}
-use Rattle.clap.specs.Matches.{first_value, one_text}
-use Rattle.clap.specs.Values.{read_as}
+use Rattle.clap.specs.Matches.{first_value}
 use Rattle.clap.specs.Walk.{Row, Text, rows_of}
 use Rattle.clap.specs.declared.parser.matches.Found.{Found}
-use Rattle.clap.proofs.WalkLemmas.{first_value-rows, one_text-rows}
+use Rattle.clap.proofs.WalkLemmas.{first_value-rows}
 use Rattle.vip_words.specs.Command.{command_faults, command_rows}
-use Rattle.vip_words.specs.Given.{given_of, words_in}
-use Rattle.vip_words.specs.Rules.{Given, Word, given_by, is_known, positional_words}
+use Rattle.vip_words.specs.Given.{given_of, is_told, words_in}
+use Rattle.vip_words.specs.Rules.{Given, Word, flag_name, given_by, is_known, positional_words}
 use Rattle.vip_words.specs.declared.table.Usage.{Usage}
 use Rattle.vip_words.proofs.Ends.{EndsGiven, flag_end}
 use Rattle.vip_words.proofs.Known.{known_of_all, strings_known}
-use Rattle.vip_words.proofs.Rows.{Seen, both_true, first_of-look, look, one_of-look}
-use Rattle.vip_words.proofs.Shown.{flag_in, word_seen}
-use Rattle.vip_words.proofs.Flags.{Asm, At, Chip8, Echo, Exits, Flag, Ram, Raw, Receiver, Rom, Screen, Sender, State, Tall, Words, flag_name}
+use Rattle.vip_words.proofs.Rows.{Seen, both_true, first_of-look, look}
+use Rattle.vip_words.proofs.Shown.{word_seen}
+use Rattle.vip_words.specs.declared.flag.Flag.{Flag}
 use Rattle.vip_words.proofs.Steps.{First, Fourth, Second, Third}
 use Rattle.vip_words.proofs.Walks.{Agrees, all_given, command_agrees, is_well_formed}
 
@@ -62,30 +62,12 @@ refused_give_none usage name (verb ∷ rest) some known bad =
 
 -- ---- words that are taken
 
--- a flag that is read as its text says
-pub record FlagRead (found : Found) (id : Text) (result : Bool) : Type 0 where
-  pub on : one_text found id ≡ Some (codes "true") → result ≡ true
-  pub off : one_text found id ≡ Some (codes "false") → result ≡ false
-
 -- what is read from the matches
 pub record ReadFrom (found : Found) (given : Given) : Type 0 where
   pub positional : given.positional
       ≡ words_in (first_value found (codes "first")) (first_value found (codes "second")) (first_value found (codes "third")) (first_value found (codes "fourth"))
   pub keys : given.keys ≡ first_value found (codes "keys")
-  pub at : FlagRead found (codes "at") given.at
-  pub screen : FlagRead found (codes "screen") given.screen
-  pub words : FlagRead found (codes "words") given.words
-  pub tall : FlagRead found (codes "tall") given.tall
-  pub state : FlagRead found (codes "state") given.state
-  pub raw : FlagRead found (codes "raw") given.raw
-  pub chip8 : FlagRead found (codes "chip8") given.chip8
-  pub asm : FlagRead found (codes "asm") given.asm
-  pub echo : FlagRead found (codes "echo") given.echo
-  pub exits : FlagRead found (codes "exits") given.exits
-  pub rom : FlagRead found (codes "rom") given.rom
-  pub ram : FlagRead found (codes "ram") given.ram
-  pub sender : FlagRead found (codes "sender") given.sender
-  pub receiver : FlagRead found (codes "receiver") given.receiver
+  pub has : (flag : Flag) → given.has flag ≡ is_told (first_value found (flag_name flag))
 
 -- the word in a row
 abbrev word_of : Option Seen → Option Text
@@ -98,27 +80,14 @@ word_of-seen (Some word) = refl
 word_read : (found : Found) (id : Text) (o : Option Text) → look id (rows_of found) ≡ word_seen o → first_value found id ≡ o
 word_read found id o is = first_value-rows found id ∙ (first_of-look id (rows_of found) ∙ (ap word_of is ∙ word_of-seen o))
 
--- the text of a flag's row
-abbrev text_of : Option Seen → Option Text
-text_of = option_and_then (λ seen. option_map (read_as seen.2) (slice_get seen.0 0))
-
-abbrev flag_text : Bool → Text
-flag_text true = codes "true"
-flag_text false = codes "false"
-
-text_of-flag : (b : Bool) → text_of (flag_end b) ≡ Some (flag_text b)
-text_of-flag true = refl
-text_of-flag false = refl
-
-flag_read : (found : Found) (given : Given) (flag : Flag) (result : Bool) → EndsGiven (rows_of found) given
-    → FlagRead found (flag_name flag) result → flag_in given flag ≡ result
-flag_read found given flag result shows reads =
-    by_flag (flag_in given flag) (one_text-rows found (flag_name flag)
-    ∙ (one_of-look (flag_name flag) (rows_of found) ∙ (ap text_of (shows.flags_are flag) ∙ text_of-flag (flag_in given flag))))
+flag_read : (found : Found) (given : Given) (flag : Flag) → EndsGiven (rows_of found) given → given.has flag ≡ is_told (first_value found (flag_name flag))
+flag_read found given flag shows =
+    sym (ap is_told (first_value-rows found (flag_name flag) ∙ (first_of-look (flag_name flag) (rows_of found) ∙ ap word_of (shows.flags_are flag)))
+    ∙ told (given.has flag))
   where
-    by_flag : (b : Bool) → one_text found (flag_name flag) ≡ Some (flag_text b) → b ≡ result
-    by_flag true text = sym (reads.on text)
-    by_flag false text = sym (reads.off text)
+    told : (b : Bool) → is_told (word_of (flag_end b)) ≡ b
+    told true = refl
+    told false = refl
 
 -- a few words are the words in their places
 words_in_places : (words : List Text) → length words ≤ 4 → words_in (slice_get words 0) (slice_get words 1) (slice_get words 2) (slice_get words 3) ≡ words
@@ -140,59 +109,11 @@ words_read found given few shows =
       word_read found (codes "fourth") (slice_get given.positional 3) (shows.places Fourth),
     ) (words_in_places given.positional few)
 
--- the second, with the flags of the first from one on
-abbrev from_sender : Given → Given → Given
-from_sender given given' = record given' { sender = given.sender; receiver = given.receiver }
-
-abbrev from_ram : Given → Given → Given
-from_ram given given' = record (from_sender given given') { ram = given.ram }
-
-abbrev from_rom : Given → Given → Given
-from_rom given given' = record (from_ram given given') { rom = given.rom }
-
-abbrev from_exits : Given → Given → Given
-from_exits given given' = record (from_rom given given') { exits = given.exits }
-
-abbrev from_echo : Given → Given → Given
-from_echo given given' = record (from_exits given given') { echo = given.echo }
-
-abbrev from_asm : Given → Given → Given
-from_asm given given' = record (from_echo given given') { asm = given.asm }
-
-abbrev from_chip8 : Given → Given → Given
-from_chip8 given given' = record (from_asm given given') { chip8 = given.chip8 }
-
-abbrev from_raw : Given → Given → Given
-from_raw given given' = record (from_chip8 given given') { raw = given.raw }
-
-abbrev from_state : Given → Given → Given
-from_state given given' = record (from_raw given given') { state = given.state }
-
-abbrev from_tall : Given → Given → Given
-from_tall given given' = record (from_state given given') { tall = given.tall }
-
-abbrev from_words : Given → Given → Given
-from_words given given' = record (from_tall given given') { words = given.words }
-
 same_given : (given given' : Given) → given.positional ≡ given'.positional → given.keys ≡ given'.keys
-    → ((flag : Flag) → flag_in given flag ≡ flag_in given' flag) → given ≡ given'
+    → ((flag : Flag) → given.has flag ≡ given'.has flag) → given ≡ given'
 same_given given given' positional keys flags =
     ap (λ x. record given { positional = x }) positional
-    ∙ (ap (λ x. record given { positional = given'.positional; keys = x }) keys
-    ∙ (ap (λ x. record given { positional = given'.positional; keys = given'.keys; at = x }) (flags At)
-    ∙ (ap (λ x. record (from_words given given') { screen = x }) (flags Screen)
-    ∙ (ap (λ x. record (from_tall given given') { words = x }) (flags Words)
-    ∙ (ap (λ x. record (from_state given given') { tall = x }) (flags Tall)
-    ∙ (ap (λ x. record (from_raw given given') { state = x }) (flags State)
-    ∙ (ap (λ x. record (from_chip8 given given') { raw = x }) (flags Raw)
-    ∙ (ap (λ x. record (from_asm given given') { chip8 = x }) (flags Chip8)
-    ∙ (ap (λ x. record (from_echo given given') { asm = x }) (flags Asm)
-    ∙ (ap (λ x. record (from_exits given given') { echo = x }) (flags Echo)
-    ∙ (ap (λ x. record (from_rom given given') { exits = x }) (flags Exits)
-    ∙ (ap (λ x. record (from_ram given given') { rom = x }) (flags Rom)
-    ∙ (ap (λ x. record (from_sender given given') { ram = x }) (flags Ram)
-    ∙ (ap (λ x. record given' { sender = x; receiver = given.receiver }) (flags Sender)
-    ∙ ap (λ x. record given' { receiver = x }) (flags Receiver)))))))))))))))
+    ∙ (ap (λ x. record given { positional = given'.positional; keys = x }) keys ∙ ap (λ x. record given' { has = x }) (fun_ext flags))
 
 -- what is read is what the rows show
 read_shown : (found : Found) (given given' : Given) → length given.positional ≤ 4 → EndsGiven (rows_of found) given → ReadFrom found given'
@@ -201,22 +122,7 @@ read_shown found given given' few shows reads =
     same_given given given'
     (sym (reads.positional ∙ words_read found given few shows))
     (sym (reads.keys ∙ word_read found (codes "keys") given.keys shows.keys_is))
-    (λ flag. elim flag as (λ f. flag_in given f ≡ flag_in given' f) [
-      | At ↦ flag_read found given At given'.at shows reads.at
-      | Screen ↦ flag_read found given Screen given'.screen shows reads.screen
-      | Words ↦ flag_read found given Words given'.words shows reads.words
-      | Tall ↦ flag_read found given Tall given'.tall shows reads.tall
-      | State ↦ flag_read found given State given'.state shows reads.state
-      | Raw ↦ flag_read found given Raw given'.raw shows reads.raw
-      | Chip8 ↦ flag_read found given Chip8 given'.chip8 shows reads.chip8
-      | Asm ↦ flag_read found given Asm given'.asm shows reads.asm
-      | Echo ↦ flag_read found given Echo given'.echo shows reads.echo
-      | Exits ↦ flag_read found given Exits given'.exits shows reads.exits
-      | Rom ↦ flag_read found given Rom given'.rom shows reads.rom
-      | Ram ↦ flag_read found given Ram given'.ram shows reads.ram
-      | Sender ↦ flag_read found given Sender given'.sender shows reads.sender
-      | Receiver ↦ flag_read found given Receiver given'.receiver shows reads.receiver
-    ])
+    (λ flag. flag_read found given flag shows ∙ sym (reads.has flag))
 
 count_of : (count : ℕ) (words : List Word) → is_well_formed count words ≡ true → length (positional_words false words) ≡ count
 count_of count words fit = eqb-true (length (positional_words false words)) count (both_true _ _ (both_true _ _ fit).1).1

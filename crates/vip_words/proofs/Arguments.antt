@@ -2,7 +2,9 @@
 use Rattle.std.proofs.Common.{◌≡◌, ◌∙◌, sym, ap, subst, arith, ◌<◌, ◌≤◌, ◌+◌, ℕ, List, [], ◌∷◌, ◌++◌, length, get_or, map, take, Bor}
 use Rattle.std.proofs.lemmas.List.{get_or-map, get_or-take, length-map, length-take, map-append, take_more}
 use Rattle.clap.specs.Words.{Rule, Text, with_rule}
-use Rattle.vip_words.specs.Command.{app_with, command_app, flag_names, flag_rule, keys_rule, place_names, place_rule}
+use Rattle.vip_words.specs.Command.{app_with, command_app, flag_rule, keys_rule, place_names, place_rule}
+use Rattle.vip_words.specs.Rules.{every_flag}
+use Rattle.vip_words.specs.declared.flag.Flag.{Flag}
 
 -- the rules of the first names, and that of the next one
 one_more : (rule : Text → Rule) (names : List Text) (words : List (Bor Text)) (i : ℕ) (d : Bor Text) → map (λ word. word.now) words ≡ names → i < length words
@@ -22,7 +24,7 @@ next_place name words places i d are within =
     let before : i < places = omega (arith, within, counted) in
     let inside : i < length words = omega (arith, within, counted) in
     ap (λ word. with_rule (command_app name i) (place_rule word.now)) (get_or-take places words i d before)
-    ∙ ap (λ rules. app_with name (keys_rule ∷ map flag_rule flag_names ++ rules)) (one_more place_rule place_names words i d are inside)
+    ∙ ap (λ rules. app_with name (keys_rule ∷ map flag_rule every_flag ++ rules)) (one_more place_rule place_names words i d are inside)
 
 -- all the places were gone through
 pub all_places : (words : List (Bor Text)) (places i : ℕ) → places ≤ length words → length (take places words) ≤ i → i ≤ length (take places words)
@@ -30,7 +32,9 @@ pub all_places : (words : List (Bor Text)) (places i : ℕ) → places ≤ lengt
 all_places words places i few from upto = let counted = length-take places words in omega arith
 
 -- the argument of the next flag is added to a command that has the flags before it
-pub next_flag : (name : Text) (words : List (Bor Text)) (i : ℕ) (d : Bor Text) → map (λ word. word.now) words ≡ flag_names → i < length words
-    → with_rule (app_with name (keys_rule ∷ map flag_rule (take i flag_names))) (flag_rule (get_or words i d).now)
-    ≡ app_with name (keys_rule ∷ map flag_rule (take (i + 1) flag_names))
-next_flag name words i d are within = ap (λ rules. app_with name (keys_rule ∷ rules)) (one_more flag_rule flag_names words i d are within)
+pub next_flag : (name : Text) (i : ℕ) (d : Flag) → i < length every_flag
+    → with_rule (app_with name (keys_rule ∷ map flag_rule (take i every_flag))) (flag_rule (get_or every_flag i d))
+    ≡ app_with name (keys_rule ∷ map flag_rule (take (i + 1) every_flag))
+next_flag name i d within =
+    ap (λ rules. app_with name (keys_rule ∷ rules))
+    (sym (map-append flag_rule (take i every_flag) (get_or every_flag i d ∷ [])) ∙ ap (map flag_rule) (sym (take_more every_flag i d within)))

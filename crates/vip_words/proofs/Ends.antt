@@ -10,10 +10,12 @@ use Rattle.clap.specs.Walk.{Row, Rule, Text, finished, with_default}
 use Rattle.clap.specs.declared.builder.value_parser.Reading.TheVariants.{AsWritten}
 use Rattle.vip_words.specs.Command.{place_names, place_rule}
 use Rattle.vip_words.proofs.Rows.{Seen, after_default, defaults-look, is_given-look, is_nil, look, no_default, or_first, or_first-none, quiet_defaults}
-use Rattle.vip_words.proofs.Flags.{Asm, At, Chip8, Echo, Exits, Flag, Ram, Raw, Receiver, Rom, Screen, Sender, State, Tall, Words, flag_name}
+use Rattle.vip_words.specs.Rules.{flag_name}
+use Rattle.vip_words.specs.declared.flag.Flag.{Flag}
+use Rattle.vip_words.specs.declared.flag.Flag.TheVariants.{At}
 use Rattle.vip_words.proofs.Steps.{First, Fourth, Pending, Place, Second, Third, all_quiet, arguments, held, missing_places, place_at, place_name, settled_after}
 use Rattle.vip_words.specs.Rules.{Given}
-use Rattle.vip_words.proofs.Shown.{Facts, Idle, flag_in, flag_seen, word_seen}
+use Rattle.vip_words.proofs.Shown.{Facts, Idle, flag_seen, word_seen}
 use Rattle.vip_words.proofs.Whole.{ends_with}
 
 -- a flag in its row, with its default
@@ -25,7 +27,7 @@ flag_end false = Some (codes "false" ∷ [], false, AsWritten)
 pub record EndsGiven (rows : List Row) (given : Given) : Type 0 where
   pub places : (place : Place) → look (place_name place) rows ≡ word_seen (slice_get given.positional (place_at place))
   pub keys_is : look (codes "keys") rows ≡ word_seen given.keys
-  pub flags_are : (flag : Flag) → look (flag_name flag) rows ≡ flag_end (flag_in given flag)
+  pub flags_are : (flag : Flag) → look (flag_name flag) rows ≡ flag_end (given.has flag)
 
 -- ---- the defaults are those of the flags
 
@@ -50,34 +52,10 @@ keys_default : (count : ℕ) (o : Option Seen) → fold (after_default (codes "k
 keys_default count o = no_default (codes "keys") (or_first o None) (place_arguments count) (no_place_default count) ∙ or_first-none o
 
 flag_default : (count : ℕ) (flag : Flag) (b : Bool) → fold (after_default (flag_name flag)) (flag_seen b) (arguments count) ≡ flag_end b
-flag_default count At true = no_default (codes "at") (flag_end true) (place_arguments count) (no_place_default count)
-flag_default count At false = no_default (codes "at") (flag_end false) (place_arguments count) (no_place_default count)
-flag_default count Screen true = no_default (codes "screen") (flag_end true) (place_arguments count) (no_place_default count)
-flag_default count Screen false = no_default (codes "screen") (flag_end false) (place_arguments count) (no_place_default count)
-flag_default count Words true = no_default (codes "words") (flag_end true) (place_arguments count) (no_place_default count)
-flag_default count Words false = no_default (codes "words") (flag_end false) (place_arguments count) (no_place_default count)
-flag_default count Tall true = no_default (codes "tall") (flag_end true) (place_arguments count) (no_place_default count)
-flag_default count State true = no_default (codes "state") (flag_end true) (place_arguments count) (no_place_default count)
-flag_default count Tall false = no_default (codes "tall") (flag_end false) (place_arguments count) (no_place_default count)
-flag_default count State false = no_default (codes "state") (flag_end false) (place_arguments count) (no_place_default count)
-flag_default count Raw true = no_default (codes "raw") (flag_end true) (place_arguments count) (no_place_default count)
-flag_default count Chip8 true = no_default (codes "chip8") (flag_end true) (place_arguments count) (no_place_default count)
-flag_default count Asm true = no_default (codes "asm") (flag_end true) (place_arguments count) (no_place_default count)
-flag_default count Echo true = no_default (codes "echo") (flag_end true) (place_arguments count) (no_place_default count)
-flag_default count Exits true = no_default (codes "exits") (flag_end true) (place_arguments count) (no_place_default count)
-flag_default count Raw false = no_default (codes "raw") (flag_end false) (place_arguments count) (no_place_default count)
-flag_default count Chip8 false = no_default (codes "chip8") (flag_end false) (place_arguments count) (no_place_default count)
-flag_default count Asm false = no_default (codes "asm") (flag_end false) (place_arguments count) (no_place_default count)
-flag_default count Echo false = no_default (codes "echo") (flag_end false) (place_arguments count) (no_place_default count)
-flag_default count Exits false = no_default (codes "exits") (flag_end false) (place_arguments count) (no_place_default count)
-flag_default count Rom true = no_default (codes "rom") (flag_end true) (place_arguments count) (no_place_default count)
-flag_default count Rom false = no_default (codes "rom") (flag_end false) (place_arguments count) (no_place_default count)
-flag_default count Ram true = no_default (codes "ram") (flag_end true) (place_arguments count) (no_place_default count)
-flag_default count Ram false = no_default (codes "ram") (flag_end false) (place_arguments count) (no_place_default count)
-flag_default count Sender true = no_default (codes "sender") (flag_end true) (place_arguments count) (no_place_default count)
-flag_default count Sender false = no_default (codes "sender") (flag_end false) (place_arguments count) (no_place_default count)
-flag_default count Receiver true = no_default (codes "receiver") (flag_end true) (place_arguments count) (no_place_default count)
-flag_default count Receiver false = no_default (codes "receiver") (flag_end false) (place_arguments count) (no_place_default count)
+flag_default count At true = no_default (flag_name At) (flag_end true) (place_arguments count) (no_place_default count)
+flag_default count At false = no_default (flag_name At) (flag_end false) (place_arguments count) (no_place_default count)
+flag_default count flag true = no_default (flag_name flag) (flag_end true) (place_arguments count) (no_place_default count)
+flag_default count flag false = no_default (flag_name flag) (flag_end false) (place_arguments count) (no_place_default count)
 
 pub shows_end : (count : ℕ) (rows : List Row) (given : Given) → Facts rows given → EndsGiven (fold with_default rows (arguments count)) given
 shows_end count rows given facts = record {
@@ -88,7 +66,7 @@ shows_end count rows given facts = record {
       defaults-look (codes "keys") rows (arguments count) ∙ (keys_default count (look (codes "keys") rows) ∙ facts.keys_is);
   flags_are = λ flag.
       defaults-look (flag_name flag) rows (arguments count)
-      ∙ rw (facts.flags_are flag) (flag_default count flag (flag_in given flag));
+      ∙ rw (facts.flags_are flag) (flag_default count flag (given.has flag));
 }
 
 -- ---- a place that stands empty

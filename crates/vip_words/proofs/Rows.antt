@@ -9,8 +9,7 @@ use Rattle.clap.specs.Facts.{explicit_source}
 use Rattle.clap.specs.Faults.{defaults_fault, given_default_fault}
 use Rattle.clap.specs.Kinds.{Kinds}
 use Rattle.clap.specs.Takes.{is_given}
-use Rattle.clap.specs.Values.{read_as}
-use Rattle.clap.specs.Walk.{Row, Rule, Text, at_row, default_rows, first_of, has_row, is_empty, more_values, one_of, reading_by, with_default, with_values, without}
+use Rattle.clap.specs.Walk.{Row, Rule, Text, at_row, default_rows, first_of, has_row, is_empty, more_values, reading_by, with_default, with_values, without}
 use Rattle.clap.specs.declared.builder.value_parser.Reading.{Reading}
 use Rattle.clap.specs.declared.parser.matches.ValueSource.{ValueSource}
 use Rattle.clap.specs.declared.parser.matches.ValueSource.TheVariants.{DefaultValue}
@@ -68,16 +67,6 @@ first_of-look id rows = first_at (find (λ r. bytes_eq r.id id) rows)
     first_at None = refl
     first_at (Some r) = refl
 
-pub one_of-look : (id : Text) (rows : List Row)
-    → one_of id rows ≡ option_and_then (λ seen. option_map (read_as seen.2) (slice_get seen.0 0)) (look id rows)
-one_of-look id rows = one_at (find (λ r. bytes_eq r.id id) rows)
-  where
-    one_at : (o : Option Row)
-        → option_and_then (λ (r : Row). option_map (read_as r.reading) (slice_get r.values 0)) o
-        ≡ option_and_then (λ (seen : Seen). option_map (read_as seen.2) (slice_get seen.0 0)) (option_map seen_of o)
-    one_at None = refl
-    one_at (Some r) = refl
-
 -- ---- a new row
 
 abbrev pub new_row : Text → Reading → ValueSource → List Text → Row
@@ -103,23 +92,23 @@ use-adds id how source values rows absent =
     rw same (at_row-absent id (more_values source values) (new_row id how source values ∷ []) rows absent)
 
 -- what a new row shows to an id
-abbrev pub shown : Text → Row → Option Seen
-shown id r = if bytes_eq r.id id then Some (seen_of r) else None
+abbrev pub shown_by : Text → Row → Option Seen
+shown_by id r = if bytes_eq r.id id then Some (seen_of r) else None
 
-pub look-append : (id : Text) (rows : List Row) (r : Row) → look id (rows ++ r ∷ []) ≡ or_first (look id rows) (shown id r)
+pub look-append : (id : Text) (rows : List Row) (r : Row) → look id (rows ++ r ∷ []) ≡ or_first (look id rows) (shown_by id r)
 look-append id [] r =
     elim (bytes_eq r.id id) as (λ b. option_map seen_of (if b then Some r else None) ≡ (if b then Some (seen_of r) else None))
     [ true ↦ refl | false ↦ refl ]
 look-append id (x ∷ xs) r =
     elim (bytes_eq x.id id) as (λ b. option_map seen_of (if b then Some x else find (λ y. bytes_eq y.id id) (xs ++ r ∷ []))
-    ≡ or_first (option_map seen_of (if b then Some x else find (λ y. bytes_eq y.id id) xs)) (shown id r)) [
+    ≡ or_first (option_map seen_of (if b then Some x else find (λ y. bytes_eq y.id id) xs)) (shown_by id r)) [
       | true ↦ refl
       | false ↦ look-append id xs r
     ]
 
 -- what is looked up after a first use
 pub look-use : (id id' : Text) (how : Reading) (source : ValueSource) (values : List Text) (rows : List Row) → look id rows ≡ None
-    → look id' (with_values id how source values (without id rows)) ≡ or_first (look id' rows) (shown id' (new_row id how source values))
+    → look id' (with_values id how source values (without id rows)) ≡ or_first (look id' rows) (shown_by id' (new_row id how source values))
 look-use id id' how source values rows absent =
     rw (use-adds id how source values rows absent) (look-append id' rows (new_row id how source values))
 

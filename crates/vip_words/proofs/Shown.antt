@@ -6,62 +6,16 @@ use Rattle.clap.specs.Faults.{use_fault}
 use Rattle.clap.specs.Walk.{Row, Text, used}
 use Rattle.clap.specs.declared.builder.value_parser.Reading.TheVariants.{AsWritten}
 use Rattle.clap.specs.declared.parser.matches.ValueSource.TheVariants.{CommandLine}
-use Rattle.vip_words.proofs.Rows.{Seen, has_row-look, look, look-other, look-use, new_row, or_first, shown}
-use Rattle.vip_words.proofs.Flags.{Asm, At, Chip8, Echo, Exits, Flag, Ram, Raw, Receiver, Rom, Screen, Sender, State, Tall, Words, flag_name, is_flag, no_flag}
+use Rattle.vip_words.proofs.Rows.{Seen, has_row-look, look, look-other, look-use, new_row, or_first, shown_by}
+use Rattle.vip_words.specs.Rules.{flag_name}
+use Rattle.vip_words.specs.declared.flag.Flag.{Flag}
+use Rattle.vip_words.proofs.Flags.{is_flag, no_flag}
 use Rattle.vip_words.proofs.Steps.{First, Fourth, Pending, Place, Second, Third, flag_argument, place_at, place_by_id, place_name, settled_after, settles}
 use Rattle.vip_words.specs.Rules.{Given}
 
--- the flag is given
-abbrev pub flag_in : Given → Flag → Bool
-flag_in given At = given.at
-flag_in given Screen = given.screen
-flag_in given Words = given.words
-flag_in given Tall = given.tall
-flag_in given State = given.state
-flag_in given Raw = given.raw
-flag_in given Chip8 = given.chip8
-flag_in given Asm = given.asm
-flag_in given Echo = given.echo
-flag_in given Exits = given.exits
-flag_in given Rom = given.rom
-flag_in given Ram = given.ram
-flag_in given Sender = given.sender
-flag_in given Receiver = given.receiver
-
+-- the flag is given too
 abbrev pub with_flag : Flag → Given → Given
-with_flag new given = record given {
-  at = is_flag new At || given.at;
-  screen = is_flag new Screen || given.screen;
-  words = is_flag new Words || given.words;
-  tall = is_flag new Tall || given.tall;
-  state = is_flag new State || given.state;
-  raw = is_flag new Raw || given.raw;
-  chip8 = is_flag new Chip8 || given.chip8;
-  asm = is_flag new Asm || given.asm;
-  echo = is_flag new Echo || given.echo;
-  exits = is_flag new Exits || given.exits;
-  rom = is_flag new Rom || given.rom;
-  ram = is_flag new Ram || given.ram;
-  sender = is_flag new Sender || given.sender;
-  receiver = is_flag new Receiver || given.receiver;
-}
-
--- that flag is given then, and else those that were given before
-flag_in-with : (new flag : Flag) (given : Given) → flag_in (with_flag new given) flag ≡ (is_flag new flag || flag_in given flag)
-flag_in-with new At given = refl
-flag_in-with new Screen given = refl
-flag_in-with new Words given = refl
-flag_in-with new Tall given = refl
-flag_in-with new State given = refl
-flag_in-with new Raw given = refl
-flag_in-with new Chip8 given = refl
-flag_in-with new Asm given = refl
-flag_in-with new Echo given = refl
-flag_in-with new Exits given = refl
-flag_in-with new Rom given = refl
-flag_in-with new Ram given = refl
-flag_in-with new Sender given = refl
-flag_in-with new Receiver given = refl
+with_flag new given = record given { has = λ flag. is_flag new flag || given.has flag }
 
 abbrev pub with_word : Text → Given → Given
 with_word word given = record given { positional = given.positional ++ word ∷ [] }
@@ -83,7 +37,7 @@ flag_seen true = Some (codes "true" ∷ [], true, AsWritten)
 pub record Facts (rows : List Row) (given : Given) : Type 0 where
   pub places : (place : Place) → look (place_name place) rows ≡ word_seen (slice_get given.positional (place_at place))
   pub keys_is : look (codes "keys") rows ≡ word_seen given.keys
-  pub flags_are : (flag : Flag) → look (flag_name flag) rows ≡ flag_seen (flag_in given flag)
+  pub flags_are : (flag : Flag) → look (flag_name flag) rows ≡ flag_seen (given.has flag)
 
 -- so they do once the pending word is settled, which is no fault
 pub record Idle (count : ℕ) (rows : List Row) (pending : Pending) (given : Given) : Type 0 where
@@ -128,36 +82,36 @@ abbrev pub one_word : Text → Text → Pending
 one_word id word = Some (id, word ∷ [])
 
 -- the word is shown at its place, and no other place changes
-placed : (place shows : Place) (words : List Text) (word : Text) → length words ≡ place_at place
+word_at_place : (place shows : Place) (words : List Text) (word : Text) → length words ≡ place_at place
     → or_first (word_seen (slice_get words (place_at shows)))
-    (shown (place_name shows) (new_row (place_name place) AsWritten CommandLine (word ∷ [])))
+    (shown_by (place_name shows) (new_row (place_name place) AsWritten CommandLine (word ∷ [])))
     ≡ word_seen (slice_get (words ++ word ∷ []) (place_at shows))
-placed First First [] word is = refl
-placed First Second [] word is = refl
-placed First Third [] word is = refl
-placed First Fourth [] word is = refl
-placed First shows (a ∷ rest) word is = absurd (omega arith)
-placed Second shows [] word is = absurd (omega arith)
-placed Second First (a ∷ []) word is = refl
-placed Second Second (a ∷ []) word is = refl
-placed Second Third (a ∷ []) word is = refl
-placed Second Fourth (a ∷ []) word is = refl
-placed Second shows (a ∷ b ∷ rest) word is = absurd (omega arith)
-placed Third shows [] word is = absurd (omega arith)
-placed Third shows (a ∷ []) word is = absurd (omega arith)
-placed Third First (a ∷ b ∷ []) word is = refl
-placed Third Second (a ∷ b ∷ []) word is = refl
-placed Third Third (a ∷ b ∷ []) word is = refl
-placed Third Fourth (a ∷ b ∷ []) word is = refl
-placed Third shows (a ∷ b ∷ d ∷ rest) word is = absurd (omega arith)
-placed Fourth shows [] word is = absurd (omega arith)
-placed Fourth shows (a ∷ []) word is = absurd (omega arith)
-placed Fourth shows (a ∷ b ∷ []) word is = absurd (omega arith)
-placed Fourth First (a ∷ b ∷ d ∷ []) word is = refl
-placed Fourth Second (a ∷ b ∷ d ∷ []) word is = refl
-placed Fourth Third (a ∷ b ∷ d ∷ []) word is = refl
-placed Fourth Fourth (a ∷ b ∷ d ∷ []) word is = refl
-placed Fourth shows (a ∷ b ∷ d ∷ e ∷ rest) word is = absurd (omega arith)
+word_at_place First First [] word is = refl
+word_at_place First Second [] word is = refl
+word_at_place First Third [] word is = refl
+word_at_place First Fourth [] word is = refl
+word_at_place First shows (a ∷ rest) word is = absurd (omega arith)
+word_at_place Second shows [] word is = absurd (omega arith)
+word_at_place Second First (a ∷ []) word is = refl
+word_at_place Second Second (a ∷ []) word is = refl
+word_at_place Second Third (a ∷ []) word is = refl
+word_at_place Second Fourth (a ∷ []) word is = refl
+word_at_place Second shows (a ∷ b ∷ rest) word is = absurd (omega arith)
+word_at_place Third shows [] word is = absurd (omega arith)
+word_at_place Third shows (a ∷ []) word is = absurd (omega arith)
+word_at_place Third First (a ∷ b ∷ []) word is = refl
+word_at_place Third Second (a ∷ b ∷ []) word is = refl
+word_at_place Third Third (a ∷ b ∷ []) word is = refl
+word_at_place Third Fourth (a ∷ b ∷ []) word is = refl
+word_at_place Third shows (a ∷ b ∷ d ∷ rest) word is = absurd (omega arith)
+word_at_place Fourth shows [] word is = absurd (omega arith)
+word_at_place Fourth shows (a ∷ []) word is = absurd (omega arith)
+word_at_place Fourth shows (a ∷ b ∷ []) word is = absurd (omega arith)
+word_at_place Fourth First (a ∷ b ∷ d ∷ []) word is = refl
+word_at_place Fourth Second (a ∷ b ∷ d ∷ []) word is = refl
+word_at_place Fourth Third (a ∷ b ∷ d ∷ []) word is = refl
+word_at_place Fourth Fourth (a ∷ b ∷ d ∷ []) word is = refl
+word_at_place Fourth shows (a ∷ b ∷ d ∷ e ∷ rest) word is = absurd (omega arith)
 
 pub place_idle : (count : ℕ) (place : Place) → count ≤ 4 → place_at place < count → (rows : List Row) (given : Given) (word : Text)
     → length given.positional ≡ place_at place → Facts rows given → Idle count rows (one_word (place_name place) word)
@@ -176,7 +130,7 @@ place_idle count place few within rows given word is facts =
           place_by_id count place few within,
           look-use (place_name place) (place_name shows) AsWritten CommandLine (word ∷ []) rows absent,
           facts.places shows,
-        ) (placed place shows given.positional word is);
+        ) (word_at_place place shows given.positional word is);
         keys_is = other (codes "keys") (place_differs_keys place) ∙ facts.keys_is;
         flags_are = λ flag. other (flag_name flag) (place_differs_flag place flag) ∙ facts.flags_are flag;
       };
@@ -209,9 +163,9 @@ keys_again count rows word x there = rw (has_row-look (codes "keys") rows, there
 
 -- the flag is shown, and no other flag changes
 flag_shown : (new flag : Flag) (given : Given)
-    → or_first (flag_seen (flag_in given flag)) (shown (flag_name flag) (new_row (flag_name new) AsWritten CommandLine (codes "true" ∷ [])))
-    ≡ flag_seen (flag_in (with_flag new given) flag)
-flag_shown new flag given = rw (flag_in-with new flag given) (by_both (is_flag new flag) (flag_in given flag))
+    → or_first (flag_seen (given.has flag)) (shown_by (flag_name flag) (new_row (flag_name new) AsWritten CommandLine (codes "true" ∷ [])))
+    ≡ flag_seen ((with_flag new given).has flag)
+flag_shown new flag given = by_both (is_flag new flag) (given.has flag)
   where
     by_both : (same on : Bool) → or_first (flag_seen on) (if same then flag_seen true else None) ≡ flag_seen (same || on)
     by_both true true = refl
@@ -219,7 +173,7 @@ flag_shown new flag given = rw (flag_in-with new flag given) (by_both (is_flag n
     by_both false true = refl
     by_both false false = refl
 
-pub flag_idle : (count : ℕ) (new : Flag) (rows : List Row) (given : Given) → flag_in given new ≡ false → Facts rows given
+pub flag_idle : (count : ℕ) (new : Flag) (rows : List Row) (given : Given) → given.has new ≡ false → Facts rows given
     → Idle count (used (flag_argument new) [] rows) None (with_flag new given)
 flag_idle count new rows given off facts =
     let absent : look (flag_name new) rows ≡ None = facts.flags_are new ∙ ap flag_seen off in
@@ -251,20 +205,7 @@ abbrev pub nothing_given : Given
 nothing_given = record {
   positional = [];
   keys = None;
-  at = false;
-  screen = false;
-  words = false;
-  tall = false;
-  state = false;
-  raw = false;
-  chip8 = false;
-  asm = false;
-  echo = false;
-  exits = false;
-  rom = false;
-  ram = false;
-  sender = false;
-  receiver = false;
+  has = λ _. false;
 }
 
 pub no_rows : Facts [] nothing_given
@@ -276,20 +217,5 @@ no_rows = record {
     | Fourth ↦ refl
   ];
   keys_is = refl;
-  flags_are = λ flag. elim flag as (λ f. look (flag_name f) [] ≡ flag_seen (flag_in nothing_given f)) [
-    | At ↦ refl
-    | Screen ↦ refl
-    | Words ↦ refl
-    | Tall ↦ refl
-    | State ↦ refl
-    | Raw ↦ refl
-    | Chip8 ↦ refl
-    | Asm ↦ refl
-    | Echo ↦ refl
-    | Exits ↦ refl
-    | Rom ↦ refl
-    | Ram ↦ refl
-    | Sender ↦ refl
-    | Receiver ↦ refl
-  ];
+  flags_are = λ flag. refl;
 }

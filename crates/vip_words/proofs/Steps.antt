@@ -8,7 +8,9 @@ use Rattle.clap.specs.Simple.{Shape, built, filled, with_index}
 use Rattle.clap.specs.Takes.{is_given}
 use Rattle.clap.specs.Walk.{Held, Row, Rule, Text, Waiting, Walk, arg_by_id, arg_by_index, idle, is_pending, option, settled_rows, used, walked}
 use Rattle.vip_words.specs.Command.{command_app, flag_rule, place_rule, place_names}
-use Rattle.vip_words.proofs.Flags.{Asm, At, Chip8, Echo, Exits, Flag, Ram, Raw, Receiver, Rom, Screen, Sender, State, Tall, Words, flag_name, flag_word}
+use Rattle.vip_words.specs.Rules.{flag_option}
+use Rattle.vip_words.specs.declared.flag.Flag.{Flag}
+use Rattle.vip_words.specs.declared.flag.Flag.TheVariants.{At}
 use Rattle.vip_words.proofs.Rows.{is_quiet}
 
 -- the places of the positional words
@@ -39,7 +41,7 @@ abbrev pub arguments : ℕ → List Rule
 arguments count = (shape [] count).rules
 
 abbrev pub flag_argument : Flag → Rule
-flag_argument flag = filled (flag_rule (flag_name flag))
+flag_argument flag = filled (flag_rule flag)
 
 abbrev pub place_argument : Place → Rule
 place_argument place = with_index (place_at place + 1) (filled (place_rule (place_name place)))
@@ -137,11 +139,11 @@ abbrev pub settles : ℕ → List Row → Pending → Kinds
 settles count rows pending = settle_fault (arguments count) false (held rows pending)
 
 -- `--keys` waits for its value
-abbrev pub asked : Pending
-asked = Some (codes "keys", [])
+abbrev pub keys_pending : Pending
+keys_pending = Some (codes "keys", [])
 
-abbrev pub asking : Waiting
-asking = option (codes "keys")
+abbrev pub keys_waiting : Waiting
+keys_waiting = option (codes "keys")
 
 pub and_never : (b : Bool) → (b && false) ≡ false
 and_never true = refl
@@ -150,45 +152,21 @@ and_never false = refl
 -- ---- one word more: where the walk stands after it, and its faults
 
 pub flag_step : (count : ℕ) (flag : Flag) (rows : List Row) (pending : Pending) (position : ℕ)
-    → walked (arguments count) [] (stand rows pending idle position) (flag_word flag)
+    → walked (arguments count) [] (stand rows pending idle position) (flag_option flag)
     ≡ stand (used (flag_argument flag) [] (settled_after count pending rows)) None idle position
 unfolding walked
 flag_step count At rows pending position = refl
-flag_step count Screen rows pending position = refl
-flag_step count Words rows pending position = refl
-flag_step count Tall rows pending position = refl
-flag_step count State rows pending position = refl
-flag_step count Raw rows pending position = refl
-flag_step count Chip8 rows pending position = refl
-flag_step count Asm rows pending position = refl
-flag_step count Echo rows pending position = refl
-flag_step count Exits rows pending position = refl
-flag_step count Rom rows pending position = refl
-flag_step count Ram rows pending position = refl
-flag_step count Sender rows pending position = refl
-flag_step count Receiver rows pending position = refl
+flag_step count _ rows pending position = refl
 
 pub flag_turn : (name : Text) (count : ℕ) (flag : Flag) (rows : List Row) (pending : Pending) (position : ℕ)
-    → turn_fault (shape name count) [] (stand rows pending idle position) (flag_word flag)
+    → turn_fault (shape name count) [] (stand rows pending idle position) (flag_option flag)
     ≡ or_else (or_else (settles count rows pending) (use_fault false (flag_argument flag) [] (settled_after count pending rows))) []
 flag_turn name count At rows pending position = refl
-flag_turn name count Screen rows pending position = refl
-flag_turn name count Words rows pending position = refl
-flag_turn name count Tall rows pending position = refl
-flag_turn name count State rows pending position = refl
-flag_turn name count Raw rows pending position = refl
-flag_turn name count Chip8 rows pending position = refl
-flag_turn name count Asm rows pending position = refl
-flag_turn name count Echo rows pending position = refl
-flag_turn name count Exits rows pending position = refl
-flag_turn name count Rom rows pending position = refl
-flag_turn name count Ram rows pending position = refl
-flag_turn name count Sender rows pending position = refl
-flag_turn name count Receiver rows pending position = refl
+flag_turn name count _ rows pending position = refl
 
 pub keys_step : (count : ℕ) (rows : List Row) (pending : Pending) (position : ℕ)
     → walked (arguments count) [] (stand rows pending idle position) (codes "--keys")
-    ≡ stand (settled_after count pending rows) asked asking position
+    ≡ stand (settled_after count pending rows) keys_pending keys_waiting position
 unfolding walked
 keys_step count rows pending position = refl
 
@@ -198,13 +176,13 @@ keys_turn name count rows pending position = refl
 
 -- a plain word where `--keys` waits is its value
 pub value_step : (count : ℕ) (rows : List Row) (position c : ℕ) (cs : Text) → (c == 45) ≡ false
-    → walked (arguments count) [] (stand rows asked asking position) (c ∷ cs)
+    → walked (arguments count) [] (stand rows keys_pending keys_waiting position) (c ∷ cs)
     ≡ stand rows (Some (codes "keys", (c ∷ cs) ∷ [])) idle position
 unfolding walked
 value_step count rows position c cs plain = rw (plain, plain) refl
 
 pub value_turn : (name : Text) (count : ℕ) (rows : List Row) (position c : ℕ) (cs : Text) → (c == 45) ≡ false
-    → turn_fault (shape name count) [] (stand rows asked asking position) (c ∷ cs) ≡ []
+    → turn_fault (shape name count) [] (stand rows keys_pending keys_waiting position) (c ∷ cs) ≡ []
 value_turn name count rows position c cs plain = rw (plain, plain) refl
 
 -- where nothing waits it goes to the next place

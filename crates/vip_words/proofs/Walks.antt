@@ -1,4 +1,5 @@
 -- The command of so many positional words takes exactly the words that the rules accept, and its rows show what they give.
+use Rattle.std.proofs.Math.Path.{fun_ext}
 use Rattle.std.proofs.Common.{◌≡◌, ◌∙◌, ap, sym, subst, refl, arith, add-zero, zero-add, append-nil, ◌⊎◌, inl, inr, ◌<◌, ◌≤◌, ◌+◌, ℕ, zero, suc, List, [], ◌∷◌, ◌++◌, append_assoc, Bool, true, false, not, Option, Some, None, length, length-append, codes}
 use Rattle.std.proofs.lemmas.Bool.{ne_eqb}
 use Rattle.std.specs.List.{list_all, list_any}
@@ -7,13 +8,15 @@ use Rattle.clap.specs.Faults.{turn_fault}
 use Rattle.clap.specs.Kinds.{Kinds, check_kinds, or_else}
 use Rattle.clap.specs.Walk.{Row, Text, Waiting, Walk, finished, idle, used, walked}
 use Rattle.vip_words.specs.Command.{command_faults, command_rows}
-use Rattle.vip_words.specs.Rules.{every_option, has_values, is_given, is_known, is_once, keys_value, positional_words}
+use Rattle.vip_words.specs.Rules.{every_flag, every_option, flag_option, has_values, is_given, is_known, is_once, keys_value, positional_words}
 use Rattle.vip_words.proofs.Rows.{Seen, both_true, look, or_first, or_first-none, same_bytes}
-use Rattle.vip_words.proofs.Flags.{Asm, At, Chip8, Echo, Exits, Flag, Ram, Raw, Receiver, Rom, Screen, Sender, State, Tall, Words, every_flag, flag_among, flag_word, one_flag_fails}
-use Rattle.vip_words.proofs.Steps.{and_never, First, Fourth, Pending, Place, Second, Third, arguments, asked, asking, flag_argument, flag_step, flag_turn, held, keys_step, keys_turn, place_at, place_name, place_step, place_turn, settled_after, settles, shape, stand, stray_turn, value_step, value_turn}
+use Rattle.vip_words.specs.declared.flag.Flag.{Flag}
+use Rattle.vip_words.specs.declared.flag.Flag.TheVariants.{At}
+use Rattle.vip_words.proofs.Flags.{flag_among, is_flag, no_flag, one_flag_fails, same_flag}
+use Rattle.vip_words.proofs.Steps.{and_never, First, Fourth, Pending, Place, Second, Third, arguments, keys_pending, keys_waiting, flag_argument, flag_step, flag_turn, held, keys_step, keys_turn, place_at, place_name, place_step, place_turn, settled_after, settles, shape, stand, stray_turn, value_step, value_turn}
 use Rattle.vip_words.specs.Rules.{Given, Word}
 use Rattle.vip_words.proofs.Ends.{EndsGiven, ends_checked, shows_end}
-use Rattle.vip_words.proofs.Shown.{Facts, Idle, flag_again, flag_idle, flag_in, flag_seen, word_seen, flag_use, keys_again, keys_idle, no_rows, nothing_given, one_word, place_idle, with_flag, with_keys, with_word}
+use Rattle.vip_words.proofs.Shown.{Facts, Idle, flag_again, flag_idle, flag_seen, word_seen, flag_use, keys_again, keys_idle, no_rows, nothing_given, one_word, place_idle, with_flag, with_keys, with_word}
 use Rattle.vip_words.proofs.Whole.{faults_end, faults_from, faults_step, rows_end, rows_from, rows_step, whole_faults, whole_rows}
 
 -- ---- the rules, from a word on
@@ -22,9 +25,12 @@ use Rattle.vip_words.proofs.Whole.{faults_end, faults_from, faults_step, rows_en
 abbrev once : Bool → Text → List Text → Bool
 once before option words = if before then not (is_given option words) else is_once words option
 
+-- so is each flag; a name that doesn't unfold, so that no goal has a copy for each of them
+unfoldable flags_once : (Flag → Bool) → List Text → Bool
+flags_once has words = list_all (λ flag. once (has flag) (flag_option flag) words) every_flag
+
 abbrev all_once : Bool → Given → List Text → Bool
-all_once keys given words =
-    once keys (codes "--keys") words && list_all (λ flag. once (flag_in given flag) (flag_word flag) words) every_flag
+all_once keys given words = once keys (codes "--keys") words && flags_once given.has words
 
 -- the rules accept the words, after so many positional words and what was given; `after` says that `--keys` waits for its value
 abbrev passes : ℕ → ℕ → Bool → Bool → Given → List Text → Bool
@@ -36,20 +42,7 @@ abbrev then_given : Given → List Text → Given
 then_given given words = record {
   positional = given.positional ++ positional_words false words;
   keys = or_first given.keys (keys_value words);
-  at = given.at || is_given (codes "--at") words;
-  screen = given.screen || is_given (codes "--screen") words;
-  words = given.words || is_given (codes "--words") words;
-  tall = given.tall || is_given (codes "--tall") words;
-  state = given.state || is_given (codes "--state") words;
-  raw = given.raw || is_given (codes "--raw") words;
-  chip8 = given.chip8 || is_given (codes "--chip8") words;
-  asm = given.asm || is_given (codes "--asm") words;
-  echo = given.echo || is_given (codes "--echo") words;
-  exits = given.exits || is_given (codes "--exits") words;
-  rom = given.rom || is_given (codes "--rom") words;
-  ram = given.ram || is_given (codes "--ram") words;
-  sender = given.sender || is_given (codes "--sender") words;
-  receiver = given.receiver || is_given (codes "--receiver") words;
+  has = λ flag. given.has flag || is_given (flag_option flag) words;
 }
 
 -- the same where `--keys` waits for its value
@@ -57,21 +50,72 @@ abbrev then_valued : Given → List Text → Given
 then_valued given words = record {
   positional = given.positional ++ positional_words true words;
   keys = slice_get words 0;
-  at = given.at || is_given (codes "--at") words;
-  screen = given.screen || is_given (codes "--screen") words;
-  words = given.words || is_given (codes "--words") words;
-  tall = given.tall || is_given (codes "--tall") words;
-  state = given.state || is_given (codes "--state") words;
-  raw = given.raw || is_given (codes "--raw") words;
-  chip8 = given.chip8 || is_given (codes "--chip8") words;
-  asm = given.asm || is_given (codes "--asm") words;
-  echo = given.echo || is_given (codes "--echo") words;
-  exits = given.exits || is_given (codes "--exits") words;
-  rom = given.rom || is_given (codes "--rom") words;
-  ram = given.ram || is_given (codes "--ram") words;
-  sender = given.sender || is_given (codes "--sender") words;
-  receiver = given.receiver || is_given (codes "--receiver") words;
+  has = λ flag. given.has flag || is_given (flag_option flag) words;
 }
+
+-- ---- each flag once, with one word more
+
+all_same : (test test' : Flag → Bool) → ((flag : Flag) → test flag ≡ test' flag) → (flags : List Flag) → list_all test flags ≡ list_all test' flags
+all_same test test' same [] = refl
+all_same test test' same (flag ∷ flags) = rw (same flag) (ap (λ b. test' flag && b) (all_same test test' same flags))
+
+-- a word that is no flag changes nothing
+flags_once-other : (has : Flag → Bool) (word : Text) (words : List Text) → ((flag : Flag) → bytes_eq word (flag_option flag) ≡ false)
+    → flags_once has (word ∷ words) ≡ flags_once has words
+unfolding flags_once
+flags_once-other has word words other =
+    all_same (λ flag. once (has flag) (flag_option flag) (word ∷ words)) (λ flag. once (has flag) (flag_option flag) words)
+    (λ flag. rw (other flag) refl) every_flag
+
+plain_is_no_flag : (c : ℕ) (cs : Text) → (c == 45) ≡ false → (flag : Flag) → bytes_eq (c ∷ cs) (flag_option flag) ≡ false
+plain_is_no_flag c cs plain flag = rw plain refl
+
+keys_is_no_flag : (flag : Flag) → bytes_eq (codes "--keys") (flag_option flag) ≡ false
+keys_is_no_flag flag = no_flag (λ f. bytes_eq (codes "--keys") (flag_option f)) refl flag
+
+-- a flag that wasn't given before is given then
+flags_once-with : (given : Given) (new : Flag) (words : List Text) → given.has new ≡ false
+    → flags_once given.has (flag_option new ∷ words) ≡ flags_once (with_flag new given).has words
+unfolding flags_once
+flags_once-with given new words off =
+    all_same (λ flag. once (given.has flag) (flag_option flag) (flag_option new ∷ words))
+    (λ flag. once (is_flag new flag || given.has flag) (flag_option flag) words)
+    (λ flag. by_both (is_flag new flag) (given.has flag) (is_given (flag_option flag) words) (is_once words (flag_option flag))
+    (λ same. ap given.has (same_flag new flag same) ∙ off)) every_flag
+  where
+    by_both : (same on later last : Bool) → (same ≡ true → on ≡ false)
+        → (if on then not (same || later) else (if same then not later else last)) ≡ (if same || on then not later else last)
+    by_both true true later last off = let h : true ≡ false = off refl in cc
+    by_both true false later last off = refl
+    by_both false true later last off = refl
+    by_both false false later last off = refl
+
+flag_again_is_twice : (new : Flag) (words : List Text) → once true (flag_option new) (flag_option new ∷ words) ≡ false
+flag_again_is_twice At words = refl
+flag_again_is_twice _ words = refl
+
+-- and one that was is given twice
+flags_once-twice : (has : Flag → Bool) (new : Flag) (words : List Text) → has new ≡ true → flags_once has (flag_option new ∷ words) ≡ false
+unfolding flags_once
+flags_once-twice has new words on =
+    one_flag_fails (λ flag. once (has flag) (flag_option flag) (flag_option new ∷ words)) new (rw on (flag_again_is_twice new words))
+
+flags_once-none : (has : Flag → Bool) → flags_once has [] ≡ true
+unfolding flags_once
+flags_once-none has = all_hold (λ flag. once (has flag) (flag_option flag) []) (λ flag. same_if (has flag)) every_flag
+  where
+    same_if : (b : Bool) → (if b then true else true) ≡ true
+    same_if true = refl
+    same_if false = refl
+
+    all_hold : (test : Flag → Bool) → ((flag : Flag) → test flag ≡ true) → (flags : List Flag) → list_all test flags ≡ true
+    all_hold test holds [] = refl
+    all_hold test holds (flag ∷ flags) = rw (holds flag) (all_hold test holds flags)
+
+-- what is given changes in its flags alone
+with_has : (given : Given) (words : List Text) (has : Flag → Bool) → ((flag : Flag) → (given.has flag || is_given (flag_option flag) words) ≡ has flag)
+    → then_given given words ≡ record (then_given given words) { has = has }
+with_has given words has same = ap (λ h. record (then_given given words) { has = h }) (fun_ext same)
 
 -- ---- the rules and the parse agree
 
@@ -94,7 +138,7 @@ IdleAgrees name count words = (rows : List Row) (pending : Pending) (before : �
 abbrev AskingAgrees : Text → ℕ → List Text → Type 0
 AskingAgrees name count words = (rows : List Row) (before : ℕ) (given : Given)
     → length given.positional ≡ before → before ≤ count → given.keys ≡ None → Facts rows given
-    → AgreesFrom name count (stand rows asked asking (before + 1)) words (passes count before true true given words)
+    → AgreesFrom name count (stand rows keys_pending keys_waiting (before + 1)) words (passes count before true true given words)
     (then_valued given words)
 
 abbrev IsFault : Kinds → Type 0
@@ -108,7 +152,7 @@ IsDoomed name count words = (rows : List Row) (pending : Pending) (before : ℕ)
 -- a second `--keys` is a fault, whatever follows
 abbrev IsTwice : Text → ℕ → List Text → Type 0
 IsTwice name count words = (rows : List Row) (before : ℕ) (x : Seen) → before ≤ count → look (codes "keys") rows ≡ Some x
-    → IsFault (faults_from name count (stand rows asked asking (before + 1)) words)
+    → IsFault (faults_from name count (stand rows keys_pending keys_waiting (before + 1)) words)
 
 record AllAgree (name : Text) (count : ℕ) (words : List Text) : Type 0 where
   when_idle : IdleAgrees name count words
@@ -146,10 +190,10 @@ step_ok name count w after word words test test' given given' same_test same_giv
 data WordKind (word : Text) : Type 0 where
   plain_word : (c : ℕ) (cs : Text) → word ≡ c ∷ cs → (c == 45) ≡ false → WordKind word
   keys_word : word ≡ codes "--keys" → WordKind word
-  one_flag : (flag : Flag) → word ≡ flag_word flag → WordKind word
+  one_flag : (flag : Flag) → word ≡ flag_option flag → WordKind word
 
 option_kind : (word : Text) (keys : Bool) → bytes_eq word (codes "--keys") ≡ keys
-    → (keys || list_any (λ flag. bytes_eq word (flag_word flag)) every_flag) ≡ true → WordKind word
+    → (keys || list_any (λ flag. bytes_eq word (flag_option flag)) every_flag) ≡ true → WordKind word
 option_kind word true is known = keys_word (same_bytes word (codes "--keys") is)
 option_kind word false is known = let found = flag_among word every_flag known in one_flag found.0 found.1
 
@@ -193,7 +237,8 @@ idle_place name count few words c cs plain rest place within rows pending given 
     (passes count (place_at place) false (is_some given.keys) given (word ∷ words))
     (passes count (place_at place + 1) false (is_some given.keys) given words)
     (then_given given (word ∷ words)) (then_given (with_word word given) words)
-    (rw plain (ap (λ n. has_values false words && (all_once (is_some given.keys) given words && (n == count))) one_more))
+    (rw (plain, flags_once-other given.has (c ∷ cs) words (plain_is_no_flag c cs plain))
+    (ap (λ n. has_values false words && (all_once (is_some given.keys) given words && (n == count))) one_more))
     (rw (plain, append_assoc given.positional (word ∷ []) later) refl)
     (place_turn name count place few within rows pending c cs plain ∙ idles.settled_well)
     (place_step count place few within rows pending c cs plain)
@@ -217,11 +262,17 @@ idle_plain name count few words c cs plain rest rows pending before given is wit
       (λ e. omega arith) in
       step_bad name count (stand rows pending idle (before + 1)) (c ∷ cs) words
       (passes count before false (is_some given.keys) given ((c ∷ cs) ∷ words)) (then_given given ((c ∷ cs) ∷ words))
-      (rw (plain, more) (never_and (has_values false words) (all_once (is_some given.keys) given words)))
+      (rw (plain, more) (never_and (has_values false words) _))
       (rw (full, stray_turn name count few rows pending c cs plain) (λ e. cc))
 ]
 
 -- ---- `--keys` where nothing waits
+
+keys_given : (given : Given) (words : List Text) → given.keys ≡ None → then_given given (codes "--keys" ∷ words) ≡ then_valued given words
+keys_given given words none =
+    with_has given (codes "--keys" ∷ words) (then_valued given words).has
+    (λ flag. ap (λ b. given.has flag || (b || is_given (flag_option flag) words)) (keys_is_no_flag flag))
+    ∙ rw none refl
 
 -- a first one waits for its value, and a second is a fault
 idle_keys : (name : Text) (count : ℕ) (words : List Text) → AllAgree name count words → IdleAgrees name count (codes "--keys" ∷ words)
@@ -231,10 +282,10 @@ idle_keys name count words rest rows pending before given is within idles = by_k
         → AgreesFrom name count (stand rows pending idle (before + 1)) (codes "--keys" ∷ words)
         (passes count before false (is_some given.keys) given (codes "--keys" ∷ words)) (then_given given (codes "--keys" ∷ words))
     by_keys None none =
-        step_ok name count (stand rows pending idle (before + 1)) (stand (settled_after count pending rows) asked asking (before + 1))
+        step_ok name count (stand rows pending idle (before + 1)) (stand (settled_after count pending rows) keys_pending keys_waiting (before + 1))
         (codes "--keys") words (passes count before false (is_some given.keys) given (codes "--keys" ∷ words))
         (passes count before true true given words) (then_given given (codes "--keys" ∷ words)) (then_valued given words)
-        (rw none refl) (rw none refl)
+        (rw (none, flags_once-other given.has (codes "--keys") words keys_is_no_flag) refl) (keys_given given words none)
         (rw (keys_turn name count rows pending (before + 1), idles.settled_well) refl) (keys_step count rows pending (before + 1))
         (rest.when_asking (settled_after count pending rows) before given is within none idles.facts)
     by_keys (Some value) there =
@@ -249,90 +300,58 @@ idle_keys name count words rest rows pending before given is within idles = by_k
 
 -- ---- a flag where nothing waits
 
-flag_passes : (count before : ℕ) (given : Given) (new : Flag) (words : List Text) → flag_in given new ≡ false
-    → passes count before false (is_some given.keys) given (flag_word new ∷ words)
-    ≡ passes count before false (is_some (with_flag new given).keys) (with_flag new given) words
-flag_passes count before given At words off = rw off refl
-flag_passes count before given Screen words off = rw off refl
-flag_passes count before given Words words off = rw off refl
-flag_passes count before given Tall words off = rw off refl
-flag_passes count before given State words off = rw off refl
-flag_passes count before given Raw words off = rw off refl
-flag_passes count before given Chip8 words off = rw off refl
-flag_passes count before given Asm words off = rw off refl
-flag_passes count before given Echo words off = rw off refl
-flag_passes count before given Exits words off = rw off refl
-flag_passes count before given Rom words off = rw off refl
-flag_passes count before given Ram words off = rw off refl
-flag_passes count before given Sender words off = rw off refl
-flag_passes count before given Receiver words off = rw off refl
+-- the rules where nothing waits, by whether each flag comes once
+abbrev passes_if : ℕ → ℕ → Bool → List Text → Bool → Bool
+passes_if count before keys words flags =
+    has_values false words && ((once keys (codes "--keys") words && flags) && (before + length (positional_words false words) == count))
 
-flag_given : (given : Given) (new : Flag) (words : List Text) → flag_in given new ≡ false
-    → then_given given (flag_word new ∷ words) ≡ then_given (with_flag new given) words
-flag_given given At words off = rw off refl
-flag_given given Screen words off = rw off refl
-flag_given given Words words off = rw off refl
-flag_given given Tall words off = rw off refl
-flag_given given State words off = rw off refl
-flag_given given Raw words off = rw off refl
-flag_given given Chip8 words off = rw off refl
-flag_given given Asm words off = rw off refl
-flag_given given Echo words off = rw off refl
-flag_given given Exits words off = rw off refl
-flag_given given Rom words off = rw off refl
-flag_given given Ram words off = rw off refl
-flag_given given Sender words off = rw off refl
-flag_given given Receiver words off = rw off refl
+flag_passes : (count before : ℕ) (given : Given) (new : Flag) (words : List Text) → given.has new ≡ false
+    → passes count before false (is_some given.keys) given (flag_option new ∷ words)
+    ≡ passes count before false (is_some (with_flag new given).keys) (with_flag new given) words
+flag_passes count before given At words off = ap (passes_if count before (is_some given.keys) words) (flags_once-with given At words off)
+flag_passes count before given new words off = ap (passes_if count before (is_some given.keys) words) (flags_once-with given new words off)
+
+by_three : (a b d : Bool) → (a || (b || d)) ≡ ((b || a) || d)
+by_three true true d = refl
+by_three true false d = refl
+by_three false true d = refl
+by_three false false d = refl
+
+flag_given : (given : Given) (new : Flag) (words : List Text) → then_given given (flag_option new ∷ words) ≡ then_given (with_flag new given) words
+flag_given given At words = with_has given (flag_option At ∷ words) _ (λ f. by_three (given.has f) (is_flag At f) (is_given (flag_option f) words))
+flag_given given new words = with_has given (flag_option new ∷ words) _ (λ f. by_three (given.has f) (is_flag new f) (is_given (flag_option f) words))
 
 -- where a test in the middle fails
 never_all : (a b d : Bool) → b ≡ false → (a && (b && d)) ≡ false
 never_all a b d fails = rw fails (and_never a)
 
-flag_again_is_twice : (new : Flag) (words : List Text) → once true (flag_word new) (flag_word new ∷ words) ≡ false
-flag_again_is_twice At words = refl
-flag_again_is_twice Screen words = refl
-flag_again_is_twice Words words = refl
-flag_again_is_twice Tall words = refl
-flag_again_is_twice State words = refl
-flag_again_is_twice Raw words = refl
-flag_again_is_twice Chip8 words = refl
-flag_again_is_twice Asm words = refl
-flag_again_is_twice Echo words = refl
-flag_again_is_twice Exits words = refl
-flag_again_is_twice Rom words = refl
-flag_again_is_twice Ram words = refl
-flag_again_is_twice Sender words = refl
-flag_again_is_twice Receiver words = refl
-
-flag_refused : (count before : ℕ) (given : Given) (new : Flag) (words : List Text) → flag_in given new ≡ true
-    → passes count before false (is_some given.keys) given (flag_word new ∷ words) ≡ false
+flag_refused : (count before : ℕ) (given : Given) (new : Flag) (words : List Text) → given.has new ≡ true
+    → passes count before false (is_some given.keys) given (flag_option new ∷ words) ≡ false
 flag_refused count before given new words on =
-    let test : Flag → Bool = λ flag. once (flag_in given flag) (flag_word flag) (flag_word new ∷ words) in
-    let fails : list_all test every_flag ≡ false = one_flag_fails test new (rw on (flag_again_is_twice new words)) in
-    never_all (has_values false (flag_word new ∷ words)) (all_once (is_some given.keys) given (flag_word new ∷ words)) _
-    (rw fails (and_never (once (is_some given.keys) (codes "--keys") (flag_word new ∷ words))))
+    never_all (has_values false (flag_option new ∷ words)) (all_once (is_some given.keys) given (flag_option new ∷ words)) _
+    (rw (flags_once-twice given.has new words on) (and_never (once (is_some given.keys) (codes "--keys") (flag_option new ∷ words))))
 
 -- it is given once
 idle_flag : (name : Text) (count : ℕ) (words : List Text) (new : Flag) → AllAgree name count words
-    → IdleAgrees name count (flag_word new ∷ words)
-idle_flag name count words new rest rows pending before given is within idles = by_use (flag_in given new) refl
+    → IdleAgrees name count (flag_option new ∷ words)
+idle_flag name count words new rest rows pending before given is within idles = by_use (given.has new) refl
   where
-    by_use : (b : Bool) → flag_in given new ≡ b
-        → AgreesFrom name count (stand rows pending idle (before + 1)) (flag_word new ∷ words)
-        (passes count before false (is_some given.keys) given (flag_word new ∷ words)) (then_given given (flag_word new ∷ words))
+    by_use : (b : Bool) → given.has new ≡ b
+        → AgreesFrom name count (stand rows pending idle (before + 1)) (flag_option new ∷ words)
+        (passes count before false (is_some given.keys) given (flag_option new ∷ words)) (then_given given (flag_option new ∷ words))
     by_use true on =
-        step_bad name count (stand rows pending idle (before + 1)) (flag_word new) words
-        (passes count before false (is_some given.keys) given (flag_word new ∷ words)) (then_given given (flag_word new ∷ words))
+        step_bad name count (stand rows pending idle (before + 1)) (flag_option new) words
+        (passes count before false (is_some given.keys) given (flag_option new ∷ words)) (then_given given (flag_option new ∷ words))
         (flag_refused count before given new words on)
         (rw (flag_turn name count new rows pending (before + 1)) (first_fault _ _ (second_fault _ _
         (flag_again new (settled_after count pending rows) _ (idles.facts.flags_are new ∙ ap flag_seen on)))))
     by_use false off =
         step_ok name count (stand rows pending idle (before + 1))
-        (stand (used (flag_argument new) [] (settled_after count pending rows)) None idle (before + 1)) (flag_word new) words
-        (passes count before false (is_some given.keys) given (flag_word new ∷ words))
+        (stand (used (flag_argument new) [] (settled_after count pending rows)) None idle (before + 1)) (flag_option new) words
+        (passes count before false (is_some given.keys) given (flag_option new ∷ words))
         (passes count before false (is_some (with_flag new given).keys) (with_flag new given) words)
-        (then_given given (flag_word new ∷ words)) (then_given (with_flag new given) words)
-        (flag_passes count before given new words off) (flag_given given new words off)
+        (then_given given (flag_option new ∷ words)) (then_given (with_flag new given) words)
+        (flag_passes count before given new words off) (flag_given given new words)
         (rw (
           flag_turn name count new rows pending (before + 1),
           idles.settled_well,
@@ -347,58 +366,33 @@ idle_flag name count words new rest rows pending before given is within idles = 
 asking_plain : (name : Text) (count : ℕ) (words : List Text) (c : ℕ) (cs : Text) → (c == 45) ≡ false → AllAgree name count words
     → AskingAgrees name count ((c ∷ cs) ∷ words)
 asking_plain name count words c cs plain rest rows before given is within none facts =
-    step_ok name count (stand rows asked asking (before + 1)) (stand rows (one_word (codes "keys") (c ∷ cs)) idle (before + 1)) (c ∷ cs)
+    step_ok name count (stand rows keys_pending keys_waiting (before + 1)) (stand rows (one_word (codes "keys") (c ∷ cs)) idle (before + 1)) (c ∷ cs)
     words
     (passes count before true true given ((c ∷ cs) ∷ words)) (passes count before false true given words)
     (then_valued given ((c ∷ cs) ∷ words)) (then_given (with_keys (c ∷ cs) given) words)
-    (rw plain refl) (rw plain refl)
+    (rw (plain, flags_once-other given.has (c ∷ cs) words (plain_is_no_flag c cs plain)) refl) (rw plain refl)
     (value_turn name count rows (before + 1) c cs plain) (value_step count rows (before + 1) c cs plain)
     (rest.when_idle rows (one_word (codes "keys") (c ∷ cs)) before (with_keys (c ∷ cs) given) is within
     (keys_idle count rows given (c ∷ cs) none facts))
 
 -- an option can't stand in the place of a value
 abbrev IsOption : Text → Type 0
-IsOption word = (word ≡ codes "--keys") ⊎ ((flag : Flag) × (word ≡ flag_word flag))
+IsOption word = (word ≡ codes "--keys") ⊎ ((flag : Flag) × (word ≡ flag_option flag))
 
 option_turn : (name : Text) (count : ℕ) (rows : List Row) (position : ℕ) (word : Text) → IsOption word
-    → IsFault (turn_fault (shape name count) [] (stand rows asked asking position) word)
+    → IsFault (turn_fault (shape name count) [] (stand rows keys_pending keys_waiting position) word)
 option_turn name count rows position word (inl is) = rw is (λ e. cc)
 option_turn name count rows position word (inr (At, is)) = rw is (λ e. cc)
-option_turn name count rows position word (inr (Screen, is)) = rw is (λ e. cc)
-option_turn name count rows position word (inr (Words, is)) = rw is (λ e. cc)
-option_turn name count rows position word (inr (Tall, is)) = rw is (λ e. cc)
-option_turn name count rows position word (inr (State, is)) = rw is (λ e. cc)
-option_turn name count rows position word (inr (Raw, is)) = rw is (λ e. cc)
-option_turn name count rows position word (inr (Chip8, is)) = rw is (λ e. cc)
-option_turn name count rows position word (inr (Asm, is)) = rw is (λ e. cc)
-option_turn name count rows position word (inr (Echo, is)) = rw is (λ e. cc)
-option_turn name count rows position word (inr (Exits, is)) = rw is (λ e. cc)
-option_turn name count rows position word (inr (Rom, is)) = rw is (λ e. cc)
-option_turn name count rows position word (inr (Ram, is)) = rw is (λ e. cc)
-option_turn name count rows position word (inr (Sender, is)) = rw is (λ e. cc)
-option_turn name count rows position word (inr (Receiver, is)) = rw is (λ e. cc)
+option_turn name count rows position word (inr (_, is)) = rw is (λ e. cc)
 
 option_refused : (count before : ℕ) (given : Given) (word : Text) (words : List Text) → IsOption word
     → passes count before true true given (word ∷ words) ≡ false
 option_refused count before given word words (inl is) = rw is refl
-option_refused count before given word words (inr (At, is)) = rw is refl
-option_refused count before given word words (inr (Screen, is)) = rw is refl
-option_refused count before given word words (inr (Words, is)) = rw is refl
-option_refused count before given word words (inr (Tall, is)) = rw is refl
-option_refused count before given word words (inr (State, is)) = rw is refl
-option_refused count before given word words (inr (Raw, is)) = rw is refl
-option_refused count before given word words (inr (Chip8, is)) = rw is refl
-option_refused count before given word words (inr (Asm, is)) = rw is refl
-option_refused count before given word words (inr (Echo, is)) = rw is refl
-option_refused count before given word words (inr (Exits, is)) = rw is refl
-option_refused count before given word words (inr (Rom, is)) = rw is refl
-option_refused count before given word words (inr (Ram, is)) = rw is refl
-option_refused count before given word words (inr (Sender, is)) = rw is refl
-option_refused count before given word words (inr (Receiver, is)) = rw is refl
+option_refused count before given word words (inr (flag, is)) = rw is refl
 
 asking_option : (name : Text) (count : ℕ) (words : List Text) (word : Text) → IsOption word → AskingAgrees name count (word ∷ words)
 asking_option name count words word is rows before given long within none facts =
-    step_bad name count (stand rows asked asking (before + 1)) word words (passes count before true true given (word ∷ words))
+    step_bad name count (stand rows keys_pending keys_waiting (before + 1)) word words (passes count before true true given (word ∷ words))
     (then_valued given (word ∷ words)) (option_refused count before given word words is) (option_turn name count rows (before + 1) word is)
 
 -- ---- faults that come later
@@ -431,7 +425,7 @@ doomed_word name count few words word kind rows pending before within bad =
 
 twice_option : (name : Text) (count : ℕ) (words : List Text) (word : Text) → IsOption word → IsTwice name count (word ∷ words)
 twice_option name count words word is rows before x within there =
-    rw (faults_step name count (stand rows asked asking (before + 1)) word words)
+    rw (faults_step name count (stand rows keys_pending keys_waiting (before + 1)) word words)
     (first_fault _ _ (option_turn name count rows (before + 1) word is))
 
 twice_word : (name : Text) (count : ℕ) (words : List Text) (word : Text) → WordKind word → AllAgree name count words
@@ -439,7 +433,7 @@ twice_word : (name : Text) (count : ℕ) (words : List Text) (word : Text) → W
 twice_word name count words word (plain_word c cs is plain) rest rows before x within there =
     rw (
       is,
-      faults_step name count (stand rows asked asking (before + 1)) (c ∷ cs) words,
+      faults_step name count (stand rows keys_pending keys_waiting (before + 1)) (c ∷ cs) words,
       value_turn name count rows (before + 1) c cs plain,
       value_step count rows (before + 1) c cs plain,
     ) (rest.doomed rows (one_word (codes "keys") (c ∷ cs)) before within (keys_again count rows (c ∷ cs) x there))
@@ -451,24 +445,7 @@ twice_word name count words word (one_flag flag is) rest rows before x within th
 -- ---- the end of the words
 
 none_once : (keys : Bool) (given : Given) → all_once keys given [] ≡ true
-none_once keys given =
-    rw (
-      same_if keys,
-      same_if given.at,
-      same_if given.screen,
-      same_if given.words,
-      same_if given.tall,
-      same_if given.state,
-      same_if given.raw,
-      same_if given.chip8,
-      same_if given.asm,
-      same_if given.echo,
-      same_if given.exits,
-      same_if given.rom,
-      same_if given.ram,
-      same_if given.sender,
-      same_if given.receiver,
-    ) refl
+none_once keys given = rw (same_if keys, flags_once-none given.has) refl
   where
     same_if : (b : Bool) → (if b then true else true) ≡ true
     same_if true = refl
@@ -480,24 +457,8 @@ or_nothing false = refl
 
 no_more_given : (given : Given) → then_given given [] ≡ given
 no_more_given given =
-    rw (
-      append-nil given.positional,
-      or_first-none given.keys,
-      or_nothing given.at,
-      or_nothing given.screen,
-      or_nothing given.words,
-      or_nothing given.tall,
-      or_nothing given.state,
-      or_nothing given.raw,
-      or_nothing given.chip8,
-      or_nothing given.asm,
-      or_nothing given.echo,
-      or_nothing given.exits,
-      or_nothing given.rom,
-      or_nothing given.ram,
-      or_nothing given.sender,
-      or_nothing given.receiver,
-    ) refl
+    with_has given [] given.has (λ flag. or_nothing (given.has flag))
+    ∙ rw (append-nil given.positional, or_first-none given.keys) refl
 
 idle_end : (name : Text) (count : ℕ) → count ≤ 4 → IdleAgrees name count []
 idle_end name count few rows pending before given is within idles =
@@ -516,12 +477,12 @@ idle_end name count few rows pending before given is within idles =
     by_count false = λ e. cc
 
 -- `--keys` still waits
-unsettled : (count : ℕ) (rows : List Row) → IsFault (settles count rows asked)
+unsettled : (count : ℕ) (rows : List Row) → IsFault (settles count rows keys_pending)
 unsettled count rows = λ e. cc
 
 asking_end : (name : Text) (count : ℕ) → AskingAgrees name count []
 asking_end name count rows before given is within none facts =
-    settle_bad_end name count rows asked asking (before + 1) (unsettled count rows)
+    settle_bad_end name count rows keys_pending keys_waiting (before + 1) (unsettled count rows)
 
 -- ---- all the words
 
@@ -530,7 +491,7 @@ no_words_agree name count few = record {
   when_idle = idle_end name count few;
   when_asking = asking_end name count;
   doomed = λ rows pending before within bad. settle_bad_end name count rows pending idle (before + 1) bad;
-  twice = λ rows before x within there. settle_bad_end name count rows asked asking (before + 1) (unsettled count rows);
+  twice = λ rows before x within there. settle_bad_end name count rows keys_pending keys_waiting (before + 1) (unsettled count rows);
 }
 
 one_more_agrees : (name : Text) (count : ℕ) → count ≤ 4 → (words : List Text) (word : Text) → WordKind word → AllAgree name count words
@@ -569,20 +530,7 @@ abbrev pub all_given : List Word → Given
 all_given words = record {
   positional = positional_words false words;
   keys = keys_value words;
-  at = is_given (codes "--at") words;
-  screen = is_given (codes "--screen") words;
-  words = is_given (codes "--words") words;
-  tall = is_given (codes "--tall") words;
-  state = is_given (codes "--state") words;
-  raw = is_given (codes "--raw") words;
-  chip8 = is_given (codes "--chip8") words;
-  asm = is_given (codes "--asm") words;
-  echo = is_given (codes "--echo") words;
-  exits = is_given (codes "--exits") words;
-  rom = is_given (codes "--rom") words;
-  ram = is_given (codes "--ram") words;
-  sender = is_given (codes "--sender") words;
-  receiver = is_given (codes "--receiver") words;
+  has = λ flag. is_given (flag_option flag) words;
 }
 
 -- the rules and the command agree on known words
@@ -590,7 +538,7 @@ pub command_agrees : (name : Text) (count : ℕ) → count ≤ 4 → (verb : Tex
     → list_all (is_known every_option) words ≡ true
     → Agrees (is_well_formed count words) (command_faults name count (verb ∷ words)) (command_rows name count (verb ∷ words))
     (all_given words)
-unfolding command_faults command_rows
+unfolding command_faults command_rows flags_once
 command_agrees name count few verb words known =
     rw (whole_faults name count verb words, whole_rows name count verb words, ← zero-add (length (positional_words false words)))
     ((all_agree name count few words known).when_idle [] None 0 nothing_given refl (omega arith)

@@ -1,5 +1,6 @@
 -- What the words of a command line ask for.
 use Rattle.std.specs.Prelude.{ℕ, List, [], ◌∷◌, Bool, false, ◌&&◌, ◌||◌, ◌==◌, if◌then◌else◌, nat_le, nat_lt, length, Option, None, Some, option_map, option_and_then}
+use Rattle.std.specs.List.{list_any}
 use Rattle.std.specs.Result.{result_ok}
 use Rattle.chip8_lang.specs.declared.view.Edition.{Edition}
 use Rattle.chip8_lang.specs.declared.view.Edition.TheVariants.{Usual, Tall}
@@ -10,6 +11,8 @@ use Rattle.vip_byte.specs.Number.{decimal_number, hex_number}
 use Rattle.vip_words.specs.Request.{Asked, most_cycles, most_moves}
 use Rattle.vip_words.specs.Rules.{Given, Word, given_by}
 use Rattle.vip_words.specs.Table.{is_alone, places_of, row, verb_of}
+use Rattle.vip_words.specs.declared.flag.Flag.{Flag}
+use Rattle.vip_words.specs.declared.flag.Flag.TheVariants as flag
 use Rattle.vip_words.specs.declared.request.BuiltIn.{BuiltIn}
 use Rattle.vip_words.specs.declared.request.Code.{Code}
 use Rattle.vip_words.specs.declared.request.Code.TheVariants.{Bytes, Source}
@@ -88,8 +91,8 @@ code_by asm file = if asm then Source file else Bytes file
 -- are refused with it.
 abbrev pub start_by : Word → Given → Option (Start Word)
 start_by file given =
-    if given.state then (if given.tall || given.asm then None else Some (start.State file))
-    else Some (start.Game (code_by given.asm file) (edition_by given.tall))
+    if given.has flag.State then (if given.has flag.Tall || given.has flag.Asm then None else Some (start.State file))
+    else Some (start.Game (code_by (given.has flag.Asm) file) (edition_by (given.has flag.Tall)))
 
 -- a run of the language from there, for as many cycles as a word says, that is shown so
 abbrev pub run_by : Word → Word → Given → Show Word → Option Asked
@@ -100,18 +103,22 @@ run_by file cycles given shown =
 
 -- a program for the processor is asked for, in place of a game
 abbrev pub is_program : Given → Bool
-is_program given = given.rom || given.ram
+is_program given = given.has flag.Rom || given.has flag.Ram
 
--- Words that are refused for a program: it stands in one memory; and `--state`, `--tall`, `--screen`, `--words` and `--at` speak of a game.
+-- the flags that speak of a game
+abbrev pub game_flags : List Flag
+game_flags = flag.State ∷ flag.Tall ∷ flag.Screen ∷ flag.Words ∷ flag.At ∷ []
+
+-- Words that are refused for a program: it stands in one memory, and is no game.
 abbrev pub is_mixed : Given → Bool
-is_mixed given = (given.rom && given.ram) || (given.state || (given.tall || (given.screen || (given.words || given.at))))
+is_mixed given = (given.has flag.Rom && given.has flag.Ram) || list_any given.has game_flags
 
 -- a run of the program of this name, for as many cycles as a word says, that is shown so
 abbrev pub program_by : Word → Word → Given → ProgramShow Word → Option Asked
 program_by file cycles given shown =
     if is_mixed given then None
     else option_map
-    (λ n. request.Program (record { code = code_by given.asm file; memory = if given.rom then Rom else Ram; keys = given.keys; limit = n; show = shown }))
+    (λ n. request.Program (record { code = code_by (given.has flag.Asm) file; memory = if given.has flag.Rom then Rom else Ram; keys = given.keys; limit = n; show = shown }))
     (cycles_of cycles)
 
 -- a run of a program where the options ask for one, and else one of the language
@@ -123,7 +130,7 @@ either_by file cycles given shown program_shown =
 
 -- FILE CYCLES, where the file is a game, a saved state or a program
 abbrev pub trace_by : List Word → Given → Option Asked
-trace_by (file ∷ cycles ∷ []) given = either_by file cycles given (show.Trace given.at given.words given.screen) program.Trace
+trace_by (file ∷ cycles ∷ []) given = either_by file cycles given (show.Trace (given.has flag.At) (given.has flag.Words) (given.has flag.Screen)) program.Trace
 trace_by _ given = None
 
 abbrev pub play_by : List Word → Given → Option Asked
@@ -133,7 +140,7 @@ play_by _ given = None
 -- FILE CYCLES COMMANDS
 abbrev pub debug_by : List Word → Given → Option Asked
 debug_by (file ∷ cycles ∷ commands ∷ []) given =
-    either_by file cycles given (show.Commands commands given.echo) (program.Commands commands given.echo)
+    either_by file cycles given (show.Commands commands (given.has flag.Echo)) (program.Commands commands (given.has flag.Echo))
 debug_by _ given = None
 
 -- FILE CYCLES, where the file is a game or a saved state
@@ -145,7 +152,7 @@ shown_by shown _ given = None
 abbrev pub resume_by : List Word → Given → Option Asked
 resume_by (file ∷ cycles ∷ []) given =
     option_map
-    (λ n. request.Run (record { start = start.State file; keys = given.keys; limit = n; show = show.Trace given.at false false }))
+    (λ n. request.Run (record { start = start.State file; keys = given.keys; limit = n; show = show.Trace (given.has flag.At) false false }))
     (cycles_of cycles)
 resume_by _ given = None
 
@@ -175,9 +182,9 @@ dis_by isa _ = None
 -- The source of an edition's interpreter, or of one program of two joined boards, which have no editions.
 abbrev pub built_in_by : Given → Option BuiltIn
 built_in_by given =
-    if given.sender then (if given.receiver || given.tall then None else Some Sender)
-    else if given.receiver then (if given.tall then None else Some Receiver)
-    else Some (Interpreter (edition_by given.tall))
+    if given.has flag.Sender then (if given.has flag.Receiver || given.has flag.Tall then None else Some Sender)
+    else if given.has flag.Receiver then (if given.has flag.Tall then None else Some Receiver)
+    else Some (Interpreter (edition_by (given.has flag.Tall)))
 
 -- none
 abbrev pub source_by : List Word → Given → Option Asked
@@ -191,7 +198,7 @@ bounds_by _ = None
 
 -- FILE CERT
 abbrev pub within_by : List Word → Given → Option Asked
-within_by (file ∷ certificate ∷ []) given = Some (request.Cycles file certificate given.exits)
+within_by (file ∷ certificate ∷ []) given = Some (request.Cycles file certificate (given.has flag.Exits))
 within_by _ given = None
 
 -- FILE ENTRY P K, where the program counter and the counter are two registers
@@ -205,7 +212,7 @@ timing_by _ = None
 
 -- GAME CERT
 abbrev pub safe_by : List Word → Given → Option Asked
-safe_by (game ∷ certificate ∷ []) given = Some (request.Safe (code_by given.asm game) certificate (edition_by given.tall))
+safe_by (game ∷ certificate ∷ []) given = Some (request.Safe (code_by (given.has flag.Asm) game) certificate (edition_by (given.has flag.Tall)))
 safe_by _ given = None
 
 -- FILE, whose name is in the text that is written
@@ -233,16 +240,16 @@ asked_of_verb verb.Profile given = shown_by show.Profile given.positional given
 asked_of_verb verb.Resume given = resume_by given.positional given
 asked_of_verb verb.Demo given = demo_by given.positional
 asked_of_verb verb.Link given = link_by given.positional
-asked_of_verb verb.Asm given = option_map (λ file. request.Asm file (isa_by given.chip8) given.raw) (file_by given.positional)
-asked_of_verb verb.Check given = check_by (isa_by given.chip8) given.positional
-asked_of_verb verb.List given = option_map (λ file. request.List file (isa_by given.chip8)) (file_by given.positional)
-asked_of_verb verb.Dis given = dis_by (isa_by given.chip8) given.positional
+asked_of_verb verb.Asm given = option_map (λ file. request.Asm file (isa_by (given.has flag.Chip8)) (given.has flag.Raw)) (file_by given.positional)
+asked_of_verb verb.Check given = check_by (isa_by (given.has flag.Chip8)) given.positional
+asked_of_verb verb.List given = option_map (λ file. request.List file (isa_by (given.has flag.Chip8))) (file_by given.positional)
+asked_of_verb verb.Dis given = dis_by (isa_by (given.has flag.Chip8)) given.positional
 asked_of_verb verb.Source given = source_by given.positional given
 asked_of_verb verb.Bounds given = bounds_by given.positional
 asked_of_verb verb.Cycles given = within_by given.positional given
 asked_of_verb verb.Timing given = timing_by given.positional
 asked_of_verb verb.Safe given = safe_by given.positional given
-asked_of_verb verb.Certify given = option_map (λ game. request.Certify (code_by given.asm game) (edition_by given.tall)) (file_by given.positional)
+asked_of_verb verb.Certify given = option_map (λ game. request.Certify (code_by (given.has flag.Asm) game) (edition_by (given.has flag.Tall))) (file_by given.positional)
 asked_of_verb verb.Help given = help_by given.positional
 asked_of_verb verb.Version given = version_by given.positional
 

@@ -5,6 +5,8 @@ use Rattle.clap.specs.Kinds.{Kinds}
 use Rattle.clap.specs.Simple.{App, matches_of, new_rule, new_shape}
 use Rattle.clap.specs.Walk.{Row, Rule, Text}
 use Rattle.clap.specs.declared.builder.action.ArgAction.TheVariants.{Set, SetTrue}
+use Rattle.vip_words.specs.Rules.{every_flag, flag_name}
+use Rattle.vip_words.specs.declared.flag.Flag.{Flag}
 
 -- the names of the positional words, in order
 abbrev pub place_names : List Text
@@ -16,12 +18,12 @@ place_rule name = record (new_rule name) { required = true; action = Some Set }
 abbrev pub keys_rule : Rule
 keys_rule = record (new_rule (codes "keys")) { long = Some (codes "keys"); action = Some Set }
 
-abbrev pub flag_rule : Text → Rule
-flag_rule name = record (new_rule name) { long = Some name; action = Some SetTrue }
+-- of an option that takes no word
+abbrev pub switch_rule : Text → Rule
+switch_rule name = record (new_rule name) { long = Some name; action = Some SetTrue }
 
--- the options that take no word, in order
-abbrev pub flag_names : List Text
-flag_names = codes "at" ∷ codes "screen" ∷ codes "words" ∷ codes "tall" ∷ codes "state" ∷ codes "raw" ∷ codes "chip8" ∷ codes "asm" ∷ codes "echo" ∷ codes "exits" ∷ codes "rom" ∷ codes "ram" ∷ codes "sender" ∷ codes "receiver" ∷ []
+abbrev pub flag_rule : Flag → Rule
+flag_rule flag = switch_rule (flag_name flag)
 
 -- a command with these arguments: no help flag, no version flag, no subcommand
 abbrev pub app_with : Text → List Rule → App
@@ -32,7 +34,7 @@ app_with verb rules = record {
 
 -- every option of the program, and so many positional words
 abbrev pub command_app : Text → ℕ → App
-command_app verb places = app_with verb (keys_rule ∷ map flag_rule flag_names ++ map place_rule (take places place_names))
+command_app verb places = app_with verb (keys_rule ∷ map flag_rule every_flag ++ map place_rule (take places place_names))
 
 -- the faults that the command finds in the words, the verb first: none where it takes them
 unfoldable pub command_faults : Text → ℕ → List Text → Kinds

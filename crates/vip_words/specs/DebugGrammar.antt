@@ -161,22 +161,22 @@ some_command speaks names limit (word ∷ operands) = do
   Ok (Some command)
 
 -- what a line says: nothing, or one command
-unfoldable pub said : Speaks → (List ℕ → Option ℕ) → ℕ → List ℕ → Result (Option Command) CommandCause
-said speaks names limit line = if is_silent (words line) then Ok None else some_command speaks names limit (words line)
+unfoldable pub command_said : Speaks → (List ℕ → Option ℕ) → ℕ → List ℕ → Result (Option Command) CommandCause
+command_said speaks names limit line = if is_silent (words line) then Ok None else some_command speaks names limit (words line)
 
 -- the line that echoes a command, by the line that says it
 abbrev pub echo_line : List ℕ → List ℕ
 echo_line line = codes "> " ++ line ++ newline
 
 -- a command with its echo, where commands are echoed
-abbrev pub spoken : Bool → List ℕ → Command → Spoken
-spoken echo line command = record { command = command; echo = if echo then Some (echo_line line) else None }
+abbrev pub spoken_command : Bool → List ℕ → Command → Spoken
+spoken_command echo line command = record { command = command; echo = if echo then Some (echo_line line) else None }
 
 -- a line is refused for what it says alone
 abbrev pub command_format : Speaks → (List ℕ → Option ℕ) → Bool → ℕ → Format Spoken CommandCause CommandFault
 command_format speaks names echo limit =
     record {
-      said = λ line. result_map_both (option_map (spoken echo line)) (λ cause. cause) (said speaks names limit line);
+      said = λ line. result_map_both (option_map (spoken_command echo line)) (λ cause. cause) (command_said speaks names limit line);
       refused = λ before says. result_err says;
       fault = Fault;
     }

@@ -1,5 +1,6 @@
 -- What the program holds of what the words after a verb give.
-use Rattle.std.specs.Prelude.{List, [], ◌∷◌, Option, Some, None, map, option_map}
+use Rattle.std.specs.Prelude.{List, [], ◌∷◌, Bool, false, Option, Some, None, bytes_eq, codes, map, option_map}
+use Rattle.clap.specs.Words.{first_value, found_of}
 use Rattle.vip_words.specs.Rules as rules
 use Rattle.vip_words.specs.declared.given.Given.{Given}
 use Rattle.vip_words.specs.declared.given.Positional.{Positional}
@@ -13,24 +14,16 @@ positional_of (Two first second) = first.now ∷ second.now ∷ []
 positional_of (Three first second third) = first.now ∷ second.now ∷ third.now ∷ []
 positional_of (Four first second third fourth) = first.now ∷ second.now ∷ third.now ∷ fourth.now ∷ []
 
+-- the text of a flag's value is that it was given
+abbrev pub is_told : Option rules.Word → Bool
+is_told None = false
+is_told (Some text) = bytes_eq text (codes "true")
+
 abbrev pub seen_given : Given → rules.Given
 seen_given given = record {
   positional = positional_of given.positional;
   keys = option_map (λ word. word.now) given.keys;
-  at = given.at;
-  screen = given.screen;
-  words = given.words;
-  tall = given.tall;
-  state = given.state;
-  raw = given.raw;
-  chip8 = given.chip8;
-  asm = given.asm;
-  echo = given.echo;
-  exits = given.exits;
-  rom = given.rom;
-  ram = given.ram;
-  sender = given.sender;
-  receiver = given.receiver;
+  has = λ flag. is_told (first_value (found_of given.matches) (rules.flag_name flag));
 }
 
 -- what the words after a verb with this usage give, or nothing where they are refused

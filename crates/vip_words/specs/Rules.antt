@@ -5,63 +5,46 @@
 --   options may stand anywhere after the verb, and one given twice is refused;
 --   the other words are the positional ones, in order, and too few or too many are refused.
 use Rattle.std.specs.List.{list_all, list_any}
-use Rattle.std.specs.Prelude.{ℕ, List, [], ◌∷◌, Bool, true, false, not, ◌&&◌, ◌||◌, ◌==◌, Option, Some, None, length, slice_get, bytes_eq, if◌then◌else◌, codes}
+use Rattle.std.specs.Prelude.{ℕ, List, [], ◌∷◌, ◌++◌, Bool, true, false, not, ◌&&◌, ◌||◌, ◌==◌, Option, Some, None, length, map, slice_get, bytes_eq, if◌then◌else◌, codes}
+use Rattle.vip_words.specs.declared.flag.Flag.{Flag}
+use Rattle.vip_words.specs.declared.flag.Flag.TheVariants.{Asm, At, Chip8, Echo, Exits, Ram, Raw, Receiver, Rom, Screen, Sender, State, Tall, Words}
 
 -- a word, as its bytes
 abbrev pub Word : Type 0
 Word = List ℕ
 
--- the options as they are spelled
+-- the option that takes a word, as it is spelled
 abbrev pub keys_option : Word
 keys_option = codes "--keys"
 
-abbrev pub at_option : Word
-at_option = codes "--at"
+-- the name of a flag, which is an option that takes no word
+abbrev pub flag_name : Flag → Word
+flag_name At = codes "at"
+flag_name Screen = codes "screen"
+flag_name Words = codes "words"
+flag_name Tall = codes "tall"
+flag_name State = codes "state"
+flag_name Raw = codes "raw"
+flag_name Chip8 = codes "chip8"
+flag_name Asm = codes "asm"
+flag_name Echo = codes "echo"
+flag_name Exits = codes "exits"
+flag_name Rom = codes "rom"
+flag_name Ram = codes "ram"
+flag_name Sender = codes "sender"
+flag_name Receiver = codes "receiver"
 
-abbrev pub screen_option : Word
-screen_option = codes "--screen"
+-- every flag, in order
+abbrev pub every_flag : List Flag
+every_flag = At ∷ Screen ∷ Words ∷ Tall ∷ State ∷ Raw ∷ Chip8 ∷ Asm ∷ Echo ∷ Exits ∷ Rom ∷ Ram ∷ Sender ∷ Receiver ∷ []
 
-abbrev pub words_option : Word
-words_option = codes "--words"
-
-abbrev pub tall_option : Word
-tall_option = codes "--tall"
-
-abbrev pub state_option : Word
-state_option = codes "--state"
-
-abbrev pub raw_option : Word
-raw_option = codes "--raw"
-
-abbrev pub chip8_option : Word
-chip8_option = codes "--chip8"
-
-abbrev pub asm_option : Word
-asm_option = codes "--asm"
-
-abbrev pub echo_option : Word
-echo_option = codes "--echo"
-
-abbrev pub exits_option : Word
-exits_option = codes "--exits"
-
-abbrev pub rom_option : Word
-rom_option = codes "--rom"
-
-abbrev pub ram_option : Word
-ram_option = codes "--ram"
-
-abbrev pub sender_option : Word
-sender_option = codes "--sender"
-
-abbrev pub receiver_option : Word
-receiver_option = codes "--receiver"
+-- a flag as it is spelled
+abbrev pub flag_option : Flag → Word
+flag_option flag = codes "--" ++ flag_name flag
 
 -- every option of the program
 abbrev pub every_option : List Word
-every_option =
-    keys_option ∷ at_option ∷ screen_option ∷ words_option ∷ tall_option ∷ state_option ∷ raw_option ∷ chip8_option ∷ asm_option ∷ echo_option
-    ∷ exits_option ∷ rom_option ∷ ram_option ∷ sender_option ∷ receiver_option ∷ []
+every_option = keys_option ∷ map flag_option every_flag
 
 abbrev pub is_option : Word → Bool
 is_option word = list_any (bytes_eq word) every_option
@@ -75,7 +58,6 @@ is_plain (c ∷ cs) = not (c == 45)
 abbrev pub is_known : List Word → Word → Bool
 is_known options word = is_plain word || list_any (bytes_eq word) options
 
--- the option that takes the next word
 abbrev pub is_keys : Word → Bool
 is_keys word = bytes_eq word keys_option
 
@@ -117,20 +99,7 @@ is_accepted places options words =
 pub record Given : Type 0 where
   pub positional : List Word
   pub keys : Option Word
-  pub at : Bool
-  pub screen : Bool
-  pub words : Bool
-  pub tall : Bool
-  pub state : Bool
-  pub raw : Bool
-  pub chip8 : Bool
-  pub asm : Bool
-  pub echo : Bool
-  pub exits : Bool
-  pub rom : Bool
-  pub ram : Bool
-  pub sender : Bool
-  pub receiver : Bool
+  pub has : Flag → Bool
 
 -- what they give after such a verb, or nothing where they are refused
 abbrev pub given_by : ℕ → List Word → List Word → Option Given
@@ -138,18 +107,5 @@ given_by places options words =
     if is_accepted places options words then Some (record {
       positional = positional_words false words;
       keys = keys_value words;
-      at = is_given at_option words;
-      screen = is_given screen_option words;
-      words = is_given words_option words;
-      tall = is_given tall_option words;
-      state = is_given state_option words;
-      raw = is_given raw_option words;
-      chip8 = is_given chip8_option words;
-      asm = is_given asm_option words;
-      echo = is_given echo_option words;
-      exits = is_given exits_option words;
-      rom = is_given rom_option words;
-      ram = is_given ram_option words;
-      sender = is_given sender_option words;
-      receiver = is_given receiver_option words;
+      has = λ flag. is_given (flag_option flag) words;
     }) else None

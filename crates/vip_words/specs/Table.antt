@@ -1,7 +1,8 @@
 -- The verbs, what may follow each, and what is said of it.
-use Rattle.std.specs.Prelude.{ℕ, List, [], ◌∷◌, Bool, true, false, ◌&&◌, if◌then◌else◌, length, Option, bytes_eq, codes, find}
+use Rattle.std.specs.Prelude.{ℕ, List, [], ◌∷◌, Bool, true, false, ◌&&◌, if◌then◌else◌, length, map, Option, bytes_eq, codes, find}
 use Rattle.std.specs.Option.{option_map_or}
-use Rattle.vip_words.specs.Rules.{Word, is_keys, asm_option, at_option, chip8_option, echo_option, exits_option, keys_option, ram_option, raw_option, receiver_option, rom_option, screen_option, sender_option, state_option, tall_option, words_option}
+use Rattle.vip_words.specs.Rules.{Word, flag_option, is_keys, keys_option}
+use Rattle.vip_words.specs.declared.flag.Flag.TheVariants as flag
 use Rattle.vip_words.specs.declared.table.Verb.{Verb}
 use Rattle.vip_words.specs.declared.table.Verb.TheVariants as verb
 
@@ -29,22 +30,22 @@ made_row name words may_stand_alone options writes example texts = record {
 
 abbrev pub row : Verb → Row
 row verb.Trace =
-    made_row (codes "trace") (codes "FILE" ∷ codes "CYCLES" ∷ []) false (keys_option ∷ at_option ∷ screen_option ∷ words_option ∷ tall_option ∷ state_option ∷ asm_option ∷ rom_option ∷ ram_option ∷ [])
+    made_row (codes "trace") (codes "FILE" ∷ codes "CYCLES" ∷ []) false (keys_option ∷ map flag_option (flag.At ∷ flag.Screen ∷ flag.Words ∷ flag.Tall ∷ flag.State ∷ flag.Asm ∷ flag.Rom ∷ flag.Ram ∷ []))
     (codes "each instruction that a run met") (codes "vip trace ball.ch8 600000 --at") (codes "FORMATS.md, A trace; The trace of a program")
 row verb.Play =
-    made_row (codes "play") (codes "FILE" ∷ codes "CYCLES" ∷ []) false (keys_option ∷ tall_option ∷ state_option ∷ asm_option ∷ rom_option ∷ ram_option ∷ [])
+    made_row (codes "play") (codes "FILE" ∷ codes "CYCLES" ∷ []) false (keys_option ∷ map flag_option (flag.Tall ∷ flag.State ∷ flag.Asm ∷ flag.Rom ∷ flag.Ram ∷ []))
     (codes "each picture of a run") (codes "vip play maze.ch8 600000 > maze.pbm") (codes "FORMATS.md, A screen and a picture")
 row verb.Debug =
-    made_row (codes "debug") (codes "FILE" ∷ codes "CYCLES" ∷ codes "COMMANDS" ∷ []) false (keys_option ∷ tall_option ∷ state_option ∷ asm_option ∷ echo_option ∷ rom_option ∷ ram_option ∷ [])
+    made_row (codes "debug") (codes "FILE" ∷ codes "CYCLES" ∷ codes "COMMANDS" ∷ []) false (keys_option ∷ map flag_option (flag.Tall ∷ flag.State ∷ flag.Asm ∷ flag.Echo ∷ flag.Rom ∷ flag.Ram ∷ []))
     (codes "the answers to commands") (codes "vip debug count.ch8 99999 count.debug") (codes "FORMATS.md, The debugger's commands")
 row verb.Save =
-    made_row (codes "save") (codes "FILE" ∷ codes "CYCLES" ∷ []) false (keys_option ∷ tall_option ∷ state_option ∷ asm_option ∷ [])
+    made_row (codes "save") (codes "FILE" ∷ codes "CYCLES" ∷ []) false (keys_option ∷ map flag_option (flag.Tall ∷ flag.State ∷ flag.Asm ∷ []))
     (codes "the state of the machine as a file") (codes "vip save maze.ch8 300000 > maze.state") (codes "FORMATS.md, A machine state")
 row verb.Profile =
-    made_row (codes "profile") (codes "FILE" ∷ codes "CYCLES" ∷ []) false (keys_option ∷ tall_option ∷ state_option ∷ asm_option ∷ [])
+    made_row (codes "profile") (codes "FILE" ∷ codes "CYCLES" ∷ []) false (keys_option ∷ map flag_option (flag.Tall ∷ flag.State ∷ flag.Asm ∷ []))
     (codes "where the time of a run goes") (codes "vip profile maze.ch8 1000000") (codes "FORMATS.md, A profile")
 row verb.Resume =
-    made_row (codes "resume") (codes "STATE" ∷ codes "CYCLES" ∷ []) false (keys_option ∷ at_option ∷ [])
+    made_row (codes "resume") (codes "STATE" ∷ codes "CYCLES" ∷ []) false (keys_option ∷ map flag_option (flag.At ∷ []))
     (codes "how a saved state goes on") (codes "vip resume maze.state 600000") (codes "FORMATS.md, A trace; A machine state")
 row verb.Demo =
     made_row (codes "demo") (codes "NUMBER" ∷ codes "CYCLES" ∷ []) false ([])
@@ -53,34 +54,34 @@ row verb.Link =
     made_row (codes "link") (codes "FILE" ∷ codes "MOVES" ∷ codes "NUMBER" ∷ []) false ([])
     (codes "a message from one board to another") (codes "vip link sum.keys 500000 7") (codes "FORMATS.md, Two boards")
 row verb.Asm =
-    made_row (codes "asm") (codes "FILE" ∷ []) false (raw_option ∷ chip8_option ∷ [])
+    made_row (codes "asm") (codes "FILE" ∷ []) false (map flag_option (flag.Raw ∷ flag.Chip8 ∷ []))
     (codes "the bytes of a source") (codes "vip asm pen.asm --chip8 --raw > mine.ch8") (codes "SOURCES.md, 1802 assembly; CHIP-8 assembly; The dump; The bytes")
 row verb.Check =
-    made_row (codes "check") (codes "FILE" ∷ []) false (chip8_option ∷ [])
+    made_row (codes "check") (codes "FILE" ∷ []) false (map flag_option (flag.Chip8 ∷ []))
     (codes "every fault of a source") (codes "vip check pen.asm --chip8") (codes "SOURCES.md, The faults; Every fault")
 row verb.List =
-    made_row (codes "list") (codes "FILE" ∷ []) false (chip8_option ∷ [])
+    made_row (codes "list") (codes "FILE" ∷ []) false (map flag_option (flag.Chip8 ∷ []))
     (codes "the listing of a source") (codes "vip list multiply.asm") (codes "SOURCES.md, The listing")
 row verb.Dis =
-    made_row (codes "dis") (codes "FILE" ∷ codes "AT" ∷ []) false (chip8_option ∷ [])
+    made_row (codes "dis") (codes "FILE" ∷ codes "AT" ∷ []) false (map flag_option (flag.Chip8 ∷ []))
     (codes "bytes as a source") (codes "vip dis multiply.bin 0") (codes "SOURCES.md, The disassembly")
 row verb.Source =
-    made_row (codes "source") ([]) false (tall_option ∷ sender_option ∷ receiver_option ∷ [])
+    made_row (codes "source") ([]) false (map flag_option (flag.Tall ∷ flag.Sender ∷ flag.Receiver ∷ []))
     (codes "the source of the interpreter, or of a program of two joined boards") (codes "vip source") (codes "MACHINE.md, The ROM; Two boards")
 row verb.Bounds =
     made_row (codes "bounds") ([]) false ([])
     (codes "the most cycles of each opcode") (codes "vip bounds") (codes "MACHINE.md, Bounds")
 row verb.Cycles =
-    made_row (codes "cycles") (codes "FILE" ∷ codes "CERT" ∷ []) false (exits_option ∷ [])
+    made_row (codes "cycles") (codes "FILE" ∷ codes "CERT" ∷ []) false (map flag_option (flag.Exits ∷ []))
     (codes "whether a routine keeps its limit") (codes "vip cycles delay.asm delay.cert") (codes "SOURCES.md, A cycle certificate")
 row verb.Timing =
     made_row (codes "timing") (codes "FILE" ∷ codes "ENTRY" ∷ codes "P" ∷ codes "K" ∷ []) false ([])
     (codes "a limit of a routine, with its certificate") (codes "vip timing delay.asm delay 3 7") (codes "SOURCES.md, A cycle certificate")
 row verb.Safe =
-    made_row (codes "safe") (codes "GAME" ∷ codes "CERT" ∷ []) false (tall_option ∷ asm_option ∷ [])
+    made_row (codes "safe") (codes "GAME" ∷ codes "CERT" ∷ []) false (map flag_option (flag.Tall ∷ flag.Asm ∷ []))
     (codes "whether a certificate of a game is right") (codes "vip safe maze.ch8 maze.cert") (codes "SOURCES.md, A certificate of a game")
 row verb.Certify =
-    made_row (codes "certify") (codes "GAME" ∷ []) false (tall_option ∷ asm_option ∷ [])
+    made_row (codes "certify") (codes "GAME" ∷ []) false (map flag_option (flag.Tall ∷ flag.Asm ∷ []))
     (codes "a certificate that a game never stops") (codes "vip certify maze.ch8 > maze.cert") (codes "SOURCES.md, A certificate of a game")
 row verb.Help =
     made_row (codes "help") (codes "VERB" ∷ []) true ([])
@@ -111,20 +112,20 @@ is_alone (word ∷ words) = false
 abbrev pub about_options : List (Word × List ℕ)
 about_options =
     (keys_option, codes "a key script")
-    ∷ (at_option, codes "the tick and the machine cycle of each line")
-    ∷ (screen_option, codes "the last screen behind the lines")
-    ∷ (words_option, codes "the opcode of each line in words")
-    ∷ (tall_option, codes "the edition with 64 rows")
-    ∷ (state_option, codes "a saved state instead of a game")
-    ∷ (raw_option, codes "the bytes themselves")
-    ∷ (chip8_option, codes "words of CHIP-8 instead of those of the processor")
-    ∷ (asm_option, codes "a source instead of bytes")
-    ∷ (echo_option, codes "each command before its answer")
-    ∷ (exits_option, codes "where the routine is left")
-    ∷ (rom_option, codes "a program in the ROM instead of a game")
-    ∷ (ram_option, codes "a program in RAM instead of a game")
-    ∷ (sender_option, codes "the program that sends a message")
-    ∷ (receiver_option, codes "the program that receives it")
+    ∷ (flag_option flag.At, codes "the tick and the machine cycle of each line")
+    ∷ (flag_option flag.Screen, codes "the last screen behind the lines")
+    ∷ (flag_option flag.Words, codes "the opcode of each line in words")
+    ∷ (flag_option flag.Tall, codes "the edition with 64 rows")
+    ∷ (flag_option flag.State, codes "a saved state instead of a game")
+    ∷ (flag_option flag.Raw, codes "the bytes themselves")
+    ∷ (flag_option flag.Chip8, codes "words of CHIP-8 instead of those of the processor")
+    ∷ (flag_option flag.Asm, codes "a source instead of bytes")
+    ∷ (flag_option flag.Echo, codes "each command before its answer")
+    ∷ (flag_option flag.Exits, codes "where the routine is left")
+    ∷ (flag_option flag.Rom, codes "a program in the ROM instead of a game")
+    ∷ (flag_option flag.Ram, codes "a program in RAM instead of a game")
+    ∷ (flag_option flag.Sender, codes "the program that sends a message")
+    ∷ (flag_option flag.Receiver, codes "the program that receives it")
     ∷ []
 
 abbrev pub about : Word → List ℕ

@@ -2,16 +2,11 @@
 
 ghost use Rattle.std.specs.Prelude.{◌≡◌, ◌≤◌, ◌∷◌, [], IfOk, false};
 ghost use Rattle.clap.specs.Words.{app_of, rule_of};
-ghost use Rattle.vip_words.specs.Command.{app_with, command_app, flag_rule, keys_rule, place_rule};
+ghost use Rattle.vip_words.specs.Command.{app_with, command_app, keys_rule, place_rule, switch_rule};
 
+use crate::flag::FLAGS;
 use clap::{Arg, ArgAction, Command};
 use std::alloc::{AllocError, Global};
-
-// The options that take no word, in order.
-const FLAGS: [&str; 14] = [
-    "at", "screen", "words", "tall", "state", "raw", "chip8", "asm", "echo", "exits", "rom", "ram",
-    "sender", "receiver",
-];
 
 /// The names under which `clap` keeps the positional words, in order.
 pub const PLACES: [&str; 4] = ["first", "second", "third", "fourth"];
@@ -34,7 +29,7 @@ fn make_keys<'a>(alloc: Global) -> Arg<'a>
 
 // An option that takes no word.
 fn make_flag<'a>(alloc: Global, name: &'a str) -> Arg<'a>
-    ensures rule { rule_of result ≡ flag_rule name.entry.now }
+    ensures rule { rule_of result ≡ switch_rule name.entry.now }
     ensures own { result.global ≡ false }
 {
     Arg::new(alloc, name).long(name).action(ArgAction::SetTrue)
@@ -56,7 +51,8 @@ fn make_options<'a>(alloc: Global, verb: &'a str) -> Result<Command<'a>, AllocEr
 {
     let mut command = make_bare(alloc, verb)?;
     for flag in &FLAGS {
-        command = command.arg(make_flag(alloc, flag))?;
+        let name: &'a str = flag.name();
+        command = command.arg(make_flag(alloc, name))?;
     }
     Ok(command)
 }

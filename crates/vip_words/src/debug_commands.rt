@@ -3,7 +3,7 @@
 ghost use Rattle.std.specs.Prelude.{◌≡◌, ◌≤◌, ◌⊎◌, ◌++◌, length, option_map, Ok, Err, OnOk, IfOk, IfErr};
 ghost use Rattle.std.specs.Option.{option_to_list};
 ghost use Rattle.asm_lex.specs.Names.{number_named, value_in};
-ghost use Rattle.vip_words.specs.DebugGrammar.{commands_of, echo_line, spoken};
+ghost use Rattle.vip_words.specs.DebugGrammar.{commands_of, echo_line, spoken_command};
 ghost use Rattle.vip_words.specs.FaultNames.{command_cause_name};
 
 use crate::debug_line::read_line;
@@ -145,7 +145,7 @@ impl Model for SpokenCommand {
 
 impl SpokenCommand {
     ghost use Rattle.std.specs.Prelude.{◌≡◌, IfOk, MatchOption, None, Some};
-    ghost use Rattle.vip_words.specs.DebugGrammar.{spoken};
+    ghost use Rattle.vip_words.specs.DebugGrammar.{spoken_command};
 
     // A command that a line says.
     fn new(
@@ -154,7 +154,7 @@ impl SpokenCommand {
         line: &[u8],
         echo: bool,
     ) -> Result<SpokenCommand, AllocError>
-        ensures { IfOk result (λ entry. entry ≡ spoken echo line.now command) }
+        ensures { IfOk result (λ entry. entry ≡ spoken_command echo line.now command) }
     {
         let echo = if echo {
             Some(echo_line(alloc, line)?)
@@ -270,7 +270,7 @@ fn extend(
     line: &[u8],
     echo: bool,
 ) -> Result<(), AllocError>
-    ensures { OnOk result (list.new.items ≡ list.old.items ++ option_to_list (option_map (spoken echo line.now) command)) }
+    ensures { OnOk result (list.new.items ≡ list.old.items ++ option_to_list (option_map (spoken_command echo line.now) command)) }
 {
     if let Some(command) = command {
         list.push(SpokenCommand::new(alloc, command, line, echo)?)?;

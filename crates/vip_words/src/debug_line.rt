@@ -3,7 +3,7 @@
 ghost use Rattle.std.specs.Prelude.{◌≡◌, ◌≤◌, ◌∷◌, [], Ok, Err, IfOk, MatchResult};
 ghost use Rattle.std.specs.Str.{bytes_eq};
 ghost use Rattle.asm_lex.specs.Names.{number_named, value_in};
-ghost use Rattle.vip_words.specs.DebugGrammar.{address_of, bytes_of, command_of, decimal_within, digits_of, language_command_of, name_in, no_operand, one_operand, said, showing_of, span_of, steps_of, to_of, two_operands};
+ghost use Rattle.vip_words.specs.DebugGrammar.{address_of, bytes_of, command_of, command_said, decimal_within, digits_of, language_command_of, name_in, no_operand, one_operand, showing_of, span_of, steps_of, to_of, two_operands};
 
 use crate::debug_commands::{Command, CommandCause, Running, Seeking, Showing, Speaks, Telling};
 use asm_lex::Symbols;
@@ -16,14 +16,14 @@ const MOST_STEPS: u64 = 1_000_000;
 const MOST_SHOWN: u64 = 4_096;
 
 /// What a line says by itself: nothing or a command, or the first cause for which it says neither.
-#[tactic(auto, unfolding(crate::specs::DebugGrammar::said))]
+#[tactic(auto, unfolding(crate::specs::DebugGrammar::command_said))]
 pub fn read_line(
     line: &[u8],
     speaks: Speaks,
     names: &Symbols,
     limit: u64,
 ) -> Result<Option<Command>, CommandCause>
-    ensures { result ≡ said speaks (number_named (value_in names.now)) limit line.now }
+    ensures { result ≡ command_said speaks (number_named (value_in names.now)) limit line.now }
 {
     let mut words = Words::new(line);
     let Some(word) = words.next() else {

@@ -8,6 +8,7 @@ ghost use Rattle.vip_words.specs.Given.{given_of, positional_of, seen_given, wor
 ghost use Rattle.vip_words.specs.Rules.{is_known, is_plain};
 
 use crate::command::{PLACES, make_command};
+use crate::flag::Flag;
 use crate::table::Usage;
 use clap::ArgMatches;
 use clap::error::ErrorKind;
@@ -36,39 +37,30 @@ pub enum Positional<'a> {
 }
 
 /// What the words after a verb give.
-#[derive(Clone, Copy)]
+#[derive(Drop)]
 pub struct Given<'a> {
     pub positional: Positional<'a>,
     /// The word after `--keys`.
     pub keys: Option<&'a str>,
-    /// Whether `--at` is among the words.
-    pub at: bool,
-    /// Whether `--screen` is.
-    pub screen: bool,
-    /// Whether `--words` is.
-    pub words: bool,
-    /// Whether `--tall` is.
-    pub tall: bool,
-    /// Whether `--state` is.
-    pub state: bool,
-    /// Whether `--raw` is.
-    pub raw: bool,
-    /// Whether `--chip8` is.
-    pub chip8: bool,
-    /// Whether `--asm` is.
-    pub asm: bool,
-    /// Whether `--echo` is.
-    pub echo: bool,
-    /// Whether `--exits` is.
-    pub exits: bool,
-    /// Whether `--rom` is.
-    pub rom: bool,
-    /// Whether `--ram` is.
-    pub ram: bool,
-    /// Whether `--sender` is.
-    pub sender: bool,
-    /// Whether `--receiver` is.
-    pub receiver: bool,
+    matches: ArgMatches<'a>,
+}
+
+impl Given<'_> {
+    ghost use Rattle.vip_words.specs.Given.{seen_given};
+
+    /// Whether a flag is among the words: its value is then the text `true`.
+    pub fn has(&self, flag: Flag) -> bool
+        ensures { result ≡ (seen_given self.now).has flag }
+    {
+        matches!(self.matches.get_str(flag.name()), Some("true"))
+    }
+
+    /// Whether one of some flags is among the words.
+    pub fn has_any(&self, flags: &[Flag]) -> bool
+        ensures { result ≡ list_any (seen_given self.now).has flags.now }
+    {
+        flags.iter().any(|flag| self.has(*flag))
+    }
 }
 
 // Neither empty nor begun by `-`.
@@ -170,19 +162,6 @@ pub fn read_given<'a>(
     Ok(Given {
         positional: positional_of(&matches),
         keys: matches.get_str("keys"),
-        at: matches.get_flag("at"),
-        screen: matches.get_flag("screen"),
-        words: matches.get_flag("words"),
-        tall: matches.get_flag("tall"),
-        state: matches.get_flag("state"),
-        raw: matches.get_flag("raw"),
-        chip8: matches.get_flag("chip8"),
-        asm: matches.get_flag("asm"),
-        echo: matches.get_flag("echo"),
-        exits: matches.get_flag("exits"),
-        rom: matches.get_flag("rom"),
-        ram: matches.get_flag("ram"),
-        sender: matches.get_flag("sender"),
-        receiver: matches.get_flag("receiver"),
+        matches,
     })
 }

@@ -32,13 +32,14 @@
 //! One `clap` command serves all verbs with as many positional words: it has every option, and a word that is an option of another verb doesn't come
 //! to it. So a verb is added by its row in the two tables (`src/table.rt`, `specs/Table.antt`), its variant and what its words ask for, which mostly
 //! is a start and a show that are there; an option of a verb, by its name in the verb's rows. The rows also have what is said of a verb, and beside them
-//! stands what is said of an option: the pages of `help` are made of both. A new option that takes no word is one name more among
-//! the flags (`src/command.rt`, `specs/Command.antt`), one field of what is given, and a line in each lemma on flags.
+//! stands what is said of an option: the pages of `help` are made of both. A new option that takes no word is one more flag (`src/flag.rt`,
+//! `specs/Rules.antt`): what the words give is a set of flags.
 #![tactic(auto)]
 
 mod command;
 mod debug_commands;
 mod debug_line;
+mod flag;
 mod given;
 mod request;
 mod table;

@@ -6,6 +6,7 @@ ghost use Rattle.vip_words.specs.Given.{seen_given};
 ghost use Rattle.vip_words.specs.Request.{asked_of, code_of, program_show_of, show_of, start_of, InRange};
 ghost use Rattle.vip_words.specs.declared.table.Verb.TheVariants as verb;
 
+use crate::flag::Flag;
 use crate::given::{Given, Positional, WordsFail, read_given};
 use crate::table::Verb;
 use arrayvec::ArrayVec;
@@ -360,13 +361,13 @@ fn code_by<'a>(asm: bool, file: &'a str) -> Code<&'a str>
 fn read_start<'a>(file: &'a str, given: &Given<'a>) -> Option<Start<&'a str>>
     ensures { option_map start_of result ≡ start_by file.entry.now (seen_given given.now) }
 {
-    if !given.state {
+    if !given.has(Flag::State) {
         return Some(Start::Game {
-            code: code_by(given.asm, file),
-            edition: edition_by(given.tall),
+            code: code_by(given.has(Flag::Asm), file),
+            edition: edition_by(given.has(Flag::Tall)),
         });
     }
-    if given.tall || given.asm {
+    if given.has(Flag::Tall) || given.has(Flag::Asm) {
         None
     } else {
         Some(Start::State(file))
@@ -396,14 +397,18 @@ fn run_request<'a>(
 fn is_program(given: &Given) -> bool
     ensures { result ≡ is_program (seen_given given.now) }
 {
-    given.rom || given.ram
+    given.has(Flag::Rom) || given.has(Flag::Ram)
 }
+
+/// The flags that speak of a game.
+const GAME_FLAGS: [Flag; 5] = [Flag::State, Flag::Tall, Flag::Screen, Flag::Words, Flag::At];
 
 /// Whether the options are such as a program can't have: both memories, or an option of a game or of a saved state.
 fn is_mixed(given: &Given) -> bool
     ensures { result ≡ is_mixed (seen_given given.now) }
 {
-    given.rom && given.ram || given.state || given.tall || given.screen || given.words || given.at
+    let both_memories = given.has(Flag::Rom) && given.has(Flag::Ram);
+    both_memories || given.has_any(&GAME_FLAGS)
 }
 
 /// A run of the program of this name, for as many cycles as a word says, that is shown so.
@@ -419,9 +424,13 @@ fn program_request<'a>(
         return None;
     }
     let limit = read_cycles(cycles)?;
-    let memory = if given.rom { Memory::Rom } else { Memory::Ram };
+    let memory = if given.has(Flag::Rom) {
+        Memory::Rom
+    } else {
+        Memory::Ram
+    };
     Some(Request::Program(ProgramRequest {
-        code: code_by(given.asm, file),
+        code: code_by(given.has(Flag::Asm), file),
         memory,
         keys: given.keys,
         limit,
@@ -454,9 +463,9 @@ fn trace_request<'a>(given: &Given<'a>) -> Option<Request<&'a str>>
         return None;
     };
     let show = Show::Trace {
-        with_time: given.at,
-        with_words: given.words,
-        with_screen: given.screen,
+        with_time: given.has(Flag::At),
+        with_words: given.has(Flag::Words),
+        with_screen: given.has(Flag::Screen),
     };
     either_request(file, cycles, given, show, ProgramShow::Trace)
 }
@@ -476,13 +485,14 @@ fn debug_request<'a>(given: &Given<'a>) -> Option<Request<&'a str>>
     let Positional::Three(file, cycles, commands) = given.positional else {
         return None;
     };
+    let echo = given.has(Flag::Echo);
     let show = Show::Commands {
         file: commands,
-        echo: given.echo,
+        echo,
     };
     let program_show = ProgramShow::Commands {
         file: commands,
-        echo: given.echo,
+        echo,
     };
     either_request(file, cycles, given, show, program_show)
 }
@@ -518,7 +528,7 @@ fn resume_request<'a>(given: &Given<'a>) -> Option<Request<&'a str>>
         keys: given.keys,
         limit,
         show: Show::Trace {
-            with_time: given.at,
+            with_time: given.has(Flag::At),
             with_words: false,
             with_screen: false,
         },
@@ -562,8 +572,8 @@ fn asm_request<'a>(given: &Given<'a>) -> Option<Request<&'a str>>
     match given.positional {
         Positional::One(source) => Some(Request::Asm {
             source,
-            isa: isa_by(given.chip8),
-            raw: given.raw,
+            isa: isa_by(given.has(Flag::Chip8)),
+            raw: given.has(Flag::Raw),
         }),
         _ => None,
     }
@@ -583,7 +593,7 @@ fn check_request<'a>(
     Ok(Some(Request::Check {
         source,
         name,
-        isa: isa_by(given.chip8),
+        isa: isa_by(given.has(Flag::Chip8)),
     }))
 }
 
@@ -593,7 +603,7 @@ fn list_request<'a>(given: &Given<'a>) -> Option<Request<&'a str>>
     match given.positional {
         Positional::One(source) => Some(Request::List {
             source,
-            isa: isa_by(given.chip8),
+            isa: isa_by(given.has(Flag::Chip8)),
         }),
         _ => None,
     }
@@ -605,7 +615,7 @@ fn dis_request<'a>(given: &Given<'a>) -> Option<Request<&'a str>>
     let Positional::Two(bytes, address) = given.positional else {
         return None;
     };
-    let isa = isa_by(given.chip8);
+    let isa = isa_by(given.has(Flag::Chip8));
     let address = read_place(isa, address)?;
     Some(Request::Dis {
         bytes,
@@ -618,20 +628,20 @@ fn dis_request<'a>(given: &Given<'a>) -> Option<Request<&'a str>>
 fn built_in_by(given: &Given<'_>) -> Option<BuiltIn>
     ensures { result ≡ built_in_by (seen_given given.now) }
 {
-    if given.sender {
-        if given.receiver || given.tall {
+    if given.has(Flag::Sender) {
+        if given.has(Flag::Receiver) || given.has(Flag::Tall) {
             None
         } else {
             Some(BuiltIn::Sender)
         }
-    } else if given.receiver {
-        if given.tall {
+    } else if given.has(Flag::Receiver) {
+        if given.has(Flag::Tall) {
             None
         } else {
             Some(BuiltIn::Receiver)
         }
     } else {
-        Some(BuiltIn::Interpreter(edition_by(given.tall)))
+        Some(BuiltIn::Interpreter(edition_by(given.has(Flag::Tall))))
     }
 }
 
@@ -660,7 +670,7 @@ fn cycles_request<'a>(given: &Given<'a>) -> Option<Request<&'a str>>
         Positional::Two(source, certificate) => Some(Request::Cycles {
             source,
             certificate,
-            exits: given.exits,
+            exits: given.has(Flag::Exits),
         }),
         _ => None,
     }
@@ -691,9 +701,9 @@ fn safe_request<'a>(given: &Given<'a>) -> Option<Request<&'a str>>
 {
     match given.positional {
         Positional::Two(game, certificate) => Some(Request::Safe {
-            game: code_by(given.asm, game),
+            game: code_by(given.has(Flag::Asm), game),
             certificate,
-            edition: edition_by(given.tall),
+            edition: edition_by(given.has(Flag::Tall)),
         }),
         _ => None,
     }
@@ -704,8 +714,8 @@ fn certify_request<'a>(given: &Given<'a>) -> Option<Request<&'a str>>
 {
     match given.positional {
         Positional::One(game) => Some(Request::Certify {
-            game: code_by(given.asm, game),
-            edition: edition_by(given.tall),
+            game: code_by(given.has(Flag::Asm), game),
+            edition: edition_by(given.has(Flag::Tall)),
         }),
         _ => None,
     }

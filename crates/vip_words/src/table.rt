@@ -87,34 +87,7 @@ pub struct Usage {
 }
 
 impl Row {
-    ghost use Rattle.vip_words.specs.Table.{made_row};
     ghost use Rattle.vip_words.specs.Usage.{row_of};
-
-    // A line of the table.
-    fn new(
-        name: &'static str,
-        words: &'static [&'static str],
-        may_stand_alone: bool,
-        options: &'static [&'static str],
-        writes: &'static str,
-        example: &'static str,
-        texts: &'static str,
-    ) -> Row
-        requires few_words { length words.now ≤ 4 }
-        requires known_options { IsTrue (list_all (λ option. is_option option.now) options.now) }
-        ensures { row_of result ≡ made_row name.now (map (λ word. word.now) words.now) may_stand_alone
-            (map (λ option. option.now) options.now) writes.now example.now texts.now }
-    {
-        Row {
-            name,
-            words,
-            may_stand_alone,
-            options,
-            writes,
-            example,
-            texts,
-        }
-    }
 
     /// What may follow the verb where it stands alone, or where it doesn't.
     pub fn usage(&self, is_alone: bool) -> Usage
@@ -140,199 +113,203 @@ impl Verb {
     pub fn of(word: &str) -> Option<Verb>
         ensures { result ≡ verb_of word.now }
     {
-        VERBS.iter().copied().find(|verb| word == verb.row().name)
+        VERBS.iter().copied().find(|verb| word == verb.name())
     }
 
     /// Its row of the table.
     pub fn row(self) -> Row
         ensures { row_of result ≡ row self }
     {
+        Row {
+            name: self.name(),
+            words: self.words(),
+            may_stand_alone: self.may_stand_alone(),
+            options: self.options(),
+            writes: self.writes(),
+            example: self.example(),
+            texts: self.texts(),
+        }
+    }
+
+    // The verb, spelled as the user writes it.
+    fn name(self) -> &'static str
+        ensures { result.now ≡ (row self).name }
+    {
         match self {
-            Verb::Trace => Row::new(
-                "trace",
-                &["FILE", "CYCLES"],
-                false,
-                &[
-                    "--keys", "--at", "--screen", "--words", "--tall", "--state", "--asm", "--rom",
-                    "--ram",
-                ],
-                "each instruction that a run met",
-                "vip trace ball.ch8 600000 --at",
-                "FORMATS.md, A trace; The trace of a program",
-            ),
-            Verb::Play => Row::new(
-                "play",
-                &["FILE", "CYCLES"],
-                false,
-                &["--keys", "--tall", "--state", "--asm", "--rom", "--ram"],
-                "each picture of a run",
-                "vip play maze.ch8 600000 > maze.pbm",
-                "FORMATS.md, A screen and a picture",
-            ),
-            Verb::Debug => Row::new(
-                "debug",
-                &["FILE", "CYCLES", "COMMANDS"],
-                false,
-                &[
-                    "--keys", "--tall", "--state", "--asm", "--echo", "--rom", "--ram",
-                ],
-                "the answers to commands",
-                "vip debug count.ch8 99999 count.debug",
-                "FORMATS.md, The debugger's commands",
-            ),
-            Verb::Save => Row::new(
-                "save",
-                &["FILE", "CYCLES"],
-                false,
-                &["--keys", "--tall", "--state", "--asm"],
-                "the state of the machine as a file",
-                "vip save maze.ch8 300000 > maze.state",
-                "FORMATS.md, A machine state",
-            ),
-            Verb::Profile => Row::new(
-                "profile",
-                &["FILE", "CYCLES"],
-                false,
-                &["--keys", "--tall", "--state", "--asm"],
-                "where the time of a run goes",
-                "vip profile maze.ch8 1000000",
-                "FORMATS.md, A profile",
-            ),
-            Verb::Resume => Row::new(
-                "resume",
-                &["STATE", "CYCLES"],
-                false,
-                &["--keys", "--at"],
-                "how a saved state goes on",
-                "vip resume maze.state 600000",
-                "FORMATS.md, A trace; A machine state",
-            ),
-            Verb::Demo => Row::new(
-                "demo",
-                &["NUMBER", "CYCLES"],
-                false,
-                &[],
-                "the run of a random game in one line",
-                "vip demo 0 1000000",
-                "FORMATS.md, A demonstration and its summary",
-            ),
-            Verb::Link => Row::new(
-                "link",
-                &["FILE", "MOVES", "NUMBER"],
-                false,
-                &[],
-                "a message from one board to another",
-                "vip link sum.keys 500000 7",
-                "FORMATS.md, Two boards",
-            ),
-            Verb::Asm => Row::new(
-                "asm",
-                &["FILE"],
-                false,
-                &["--raw", "--chip8"],
-                "the bytes of a source",
-                "vip asm pen.asm --chip8 --raw > mine.ch8",
-                "SOURCES.md, 1802 assembly; CHIP-8 assembly; The dump; The bytes",
-            ),
-            Verb::Check => Row::new(
-                "check",
-                &["FILE"],
-                false,
-                &["--chip8"],
-                "every fault of a source",
-                "vip check pen.asm --chip8",
-                "SOURCES.md, The faults; Every fault",
-            ),
-            Verb::List => Row::new(
-                "list",
-                &["FILE"],
-                false,
-                &["--chip8"],
-                "the listing of a source",
-                "vip list multiply.asm",
-                "SOURCES.md, The listing",
-            ),
-            Verb::Dis => Row::new(
-                "dis",
-                &["FILE", "AT"],
-                false,
-                &["--chip8"],
-                "bytes as a source",
-                "vip dis multiply.bin 0",
-                "SOURCES.md, The disassembly",
-            ),
-            Verb::Source => Row::new(
-                "source",
-                &[],
-                false,
-                &["--tall", "--sender", "--receiver"],
-                "the source of the interpreter, or of a program of two joined boards",
-                "vip source",
-                "MACHINE.md, The ROM; Two boards",
-            ),
-            Verb::Bounds => Row::new(
-                "bounds",
-                &[],
-                false,
-                &[],
-                "the most cycles of each opcode",
-                "vip bounds",
-                "MACHINE.md, Bounds",
-            ),
-            Verb::Cycles => Row::new(
-                "cycles",
-                &["FILE", "CERT"],
-                false,
-                &["--exits"],
-                "whether a routine keeps its limit",
-                "vip cycles delay.asm delay.cert",
-                "SOURCES.md, A cycle certificate",
-            ),
-            Verb::Timing => Row::new(
-                "timing",
-                &["FILE", "ENTRY", "P", "K"],
-                false,
-                &[],
-                "a limit of a routine, with its certificate",
-                "vip timing delay.asm delay 3 7",
-                "SOURCES.md, A cycle certificate",
-            ),
-            Verb::Safe => Row::new(
-                "safe",
-                &["GAME", "CERT"],
-                false,
-                &["--tall", "--asm"],
-                "whether a certificate of a game is right",
-                "vip safe maze.ch8 maze.cert",
-                "SOURCES.md, A certificate of a game",
-            ),
-            Verb::Certify => Row::new(
-                "certify",
-                &["GAME"],
-                false,
-                &["--tall", "--asm"],
-                "a certificate that a game never stops",
-                "vip certify maze.ch8 > maze.cert",
-                "SOURCES.md, A certificate of a game",
-            ),
-            Verb::Help => Row::new(
-                "help",
-                &["VERB"],
-                true,
-                &[],
-                "all verbs, or one with its options and an example",
-                "vip help trace",
-                "COMMANDS.md, The words",
-            ),
-            Verb::Version => Row::new(
-                "version",
-                &[],
-                false,
-                &[],
-                "the name and the version",
-                "vip version",
-                "COMMANDS.md, The words",
-            ),
+            Verb::Trace => "trace",
+            Verb::Play => "play",
+            Verb::Debug => "debug",
+            Verb::Save => "save",
+            Verb::Profile => "profile",
+            Verb::Resume => "resume",
+            Verb::Demo => "demo",
+            Verb::Link => "link",
+            Verb::Asm => "asm",
+            Verb::Check => "check",
+            Verb::List => "list",
+            Verb::Dis => "dis",
+            Verb::Source => "source",
+            Verb::Bounds => "bounds",
+            Verb::Cycles => "cycles",
+            Verb::Timing => "timing",
+            Verb::Safe => "safe",
+            Verb::Certify => "certify",
+            Verb::Help => "help",
+            Verb::Version => "version",
+        }
+    }
+
+    // The names of the positional words that follow it.
+    fn words(self) -> &'static [&'static str]
+        ensures names { map (λ word. word.now) result.now ≡ (row self).words }
+        ensures few { length result.now ≤ 4 }
+    {
+        match self {
+            Verb::Trace => &["FILE", "CYCLES"],
+            Verb::Play => &["FILE", "CYCLES"],
+            Verb::Debug => &["FILE", "CYCLES", "COMMANDS"],
+            Verb::Save => &["FILE", "CYCLES"],
+            Verb::Profile => &["FILE", "CYCLES"],
+            Verb::Resume => &["STATE", "CYCLES"],
+            Verb::Demo => &["NUMBER", "CYCLES"],
+            Verb::Link => &["FILE", "MOVES", "NUMBER"],
+            Verb::Asm => &["FILE"],
+            Verb::Check => &["FILE"],
+            Verb::List => &["FILE"],
+            Verb::Dis => &["FILE", "AT"],
+            Verb::Source => &[],
+            Verb::Bounds => &[],
+            Verb::Cycles => &["FILE", "CERT"],
+            Verb::Timing => &["FILE", "ENTRY", "P", "K"],
+            Verb::Safe => &["GAME", "CERT"],
+            Verb::Certify => &["GAME"],
+            Verb::Help => &["VERB"],
+            Verb::Version => &[],
+        }
+    }
+
+    // Whether they may be left out.
+    fn may_stand_alone(self) -> bool
+        ensures { result ≡ (row self).may_stand_alone }
+    {
+        matches!(self, Verb::Help)
+    }
+
+    // Its options, spelled as the user writes them.
+    fn options(self) -> &'static [&'static str]
+        ensures names { map (λ option. option.now) result.now ≡ (row self).options }
+        ensures known { IsTrue (list_all (λ option. is_option option.now) result.now) }
+    {
+        match self {
+            Verb::Trace => &[
+                "--keys", "--at", "--screen", "--words", "--tall", "--state", "--asm", "--rom",
+                "--ram",
+            ],
+            Verb::Play => &["--keys", "--tall", "--state", "--asm", "--rom", "--ram"],
+            Verb::Debug => &[
+                "--keys", "--tall", "--state", "--asm", "--echo", "--rom", "--ram",
+            ],
+            Verb::Save => &["--keys", "--tall", "--state", "--asm"],
+            Verb::Profile => &["--keys", "--tall", "--state", "--asm"],
+            Verb::Resume => &["--keys", "--at"],
+            Verb::Demo => &[],
+            Verb::Link => &[],
+            Verb::Asm => &["--raw", "--chip8"],
+            Verb::Check => &["--chip8"],
+            Verb::List => &["--chip8"],
+            Verb::Dis => &["--chip8"],
+            Verb::Source => &["--tall", "--sender", "--receiver"],
+            Verb::Bounds => &[],
+            Verb::Cycles => &["--exits"],
+            Verb::Timing => &[],
+            Verb::Safe => &["--tall", "--asm"],
+            Verb::Certify => &["--tall", "--asm"],
+            Verb::Help => &[],
+            Verb::Version => &[],
+        }
+    }
+
+    // What it writes.
+    fn writes(self) -> &'static str
+        ensures { result.now ≡ (row self).writes }
+    {
+        match self {
+            Verb::Trace => "each instruction that a run met",
+            Verb::Play => "each picture of a run",
+            Verb::Debug => "the answers to commands",
+            Verb::Save => "the state of the machine as a file",
+            Verb::Profile => "where the time of a run goes",
+            Verb::Resume => "how a saved state goes on",
+            Verb::Demo => "the run of a random game in one line",
+            Verb::Link => "a message from one board to another",
+            Verb::Asm => "the bytes of a source",
+            Verb::Check => "every fault of a source",
+            Verb::List => "the listing of a source",
+            Verb::Dis => "bytes as a source",
+            Verb::Source => "the source of the interpreter, or of a program of two joined boards",
+            Verb::Bounds => "the most cycles of each opcode",
+            Verb::Cycles => "whether a routine keeps its limit",
+            Verb::Timing => "a limit of a routine, with its certificate",
+            Verb::Safe => "whether a certificate of a game is right",
+            Verb::Certify => "a certificate that a game never stops",
+            Verb::Help => "all verbs, or one with its options and an example",
+            Verb::Version => "the name and the version",
+        }
+    }
+
+    // A command that stands where the example files are.
+    fn example(self) -> &'static str
+        ensures { result.now ≡ (row self).example }
+    {
+        match self {
+            Verb::Trace => "vip trace ball.ch8 600000 --at",
+            Verb::Play => "vip play maze.ch8 600000 > maze.pbm",
+            Verb::Debug => "vip debug count.ch8 99999 count.debug",
+            Verb::Save => "vip save maze.ch8 300000 > maze.state",
+            Verb::Profile => "vip profile maze.ch8 1000000",
+            Verb::Resume => "vip resume maze.state 600000",
+            Verb::Demo => "vip demo 0 1000000",
+            Verb::Link => "vip link sum.keys 500000 7",
+            Verb::Asm => "vip asm pen.asm --chip8 --raw > mine.ch8",
+            Verb::Check => "vip check pen.asm --chip8",
+            Verb::List => "vip list multiply.asm",
+            Verb::Dis => "vip dis multiply.bin 0",
+            Verb::Source => "vip source",
+            Verb::Bounds => "vip bounds",
+            Verb::Cycles => "vip cycles delay.asm delay.cert",
+            Verb::Timing => "vip timing delay.asm delay 3 7",
+            Verb::Safe => "vip safe maze.ch8 maze.cert",
+            Verb::Certify => "vip certify maze.ch8 > maze.cert",
+            Verb::Help => "vip help trace",
+            Verb::Version => "vip version",
+        }
+    }
+
+    // The page of the documents, and its sections, that explain the texts.
+    fn texts(self) -> &'static str
+        ensures { result.now ≡ (row self).texts }
+    {
+        match self {
+            Verb::Trace => "FORMATS.md, A trace; The trace of a program",
+            Verb::Play => "FORMATS.md, A screen and a picture",
+            Verb::Debug => "FORMATS.md, The debugger's commands",
+            Verb::Save => "FORMATS.md, A machine state",
+            Verb::Profile => "FORMATS.md, A profile",
+            Verb::Resume => "FORMATS.md, A trace; A machine state",
+            Verb::Demo => "FORMATS.md, A demonstration and its summary",
+            Verb::Link => "FORMATS.md, Two boards",
+            Verb::Asm => "SOURCES.md, 1802 assembly; CHIP-8 assembly; The dump; The bytes",
+            Verb::Check => "SOURCES.md, The faults; Every fault",
+            Verb::List => "SOURCES.md, The listing",
+            Verb::Dis => "SOURCES.md, The disassembly",
+            Verb::Source => "MACHINE.md, The ROM; Two boards",
+            Verb::Bounds => "MACHINE.md, Bounds",
+            Verb::Cycles => "SOURCES.md, A cycle certificate",
+            Verb::Timing => "SOURCES.md, A cycle certificate",
+            Verb::Safe => "SOURCES.md, A certificate of a game",
+            Verb::Certify => "SOURCES.md, A certificate of a game",
+            Verb::Help => "COMMANDS.md, The words",
+            Verb::Version => "COMMANDS.md, The words",
         }
     }
 }

@@ -23,18 +23,5 @@ returns-clause-ok c =
     (record {
       positional = c.positional_of.ensures;
       keys = c.get_str.ensures;
-      at = record { on = c.get_flag.ensures.value; off = c.get_flag.ensures.other };
-      screen = record { on = c.get_flag-2.ensures.value; off = c.get_flag-2.ensures.other };
-      words = record { on = c.get_flag-3.ensures.value; off = c.get_flag-3.ensures.other };
-      tall = record { on = c.get_flag-4.ensures.value; off = c.get_flag-4.ensures.other };
-      state = record { on = c.get_flag-5.ensures.value; off = c.get_flag-5.ensures.other };
-      raw = record { on = c.get_flag-6.ensures.value; off = c.get_flag-6.ensures.other };
-      chip8 = record { on = c.get_flag-7.ensures.value; off = c.get_flag-7.ensures.other };
-      asm = record { on = c.get_flag-8.ensures.value; off = c.get_flag-8.ensures.other };
-      echo = record { on = c.get_flag-9.ensures.value; off = c.get_flag-9.ensures.other };
-      exits = record { on = c.get_flag-10.ensures.value; off = c.get_flag-10.ensures.other };
-      rom = record { on = c.get_flag-11.ensures.value; off = c.get_flag-11.ensures.other };
-      ram = record { on = c.get_flag-12.ensures.value; off = c.get_flag-12.ensures.other };
-      sender = record { on = c.get_flag-13.ensures.value; off = c.get_flag-13.ensures.other };
-      receiver = record { on = c.get_flag-14.ensures.value; off = c.get_flag-14.ensures.other };
+      has = λ flag. refl;
     })

@@ -1,0 +1,65 @@
+//! The options that take no word.
+
+ghost use Rattle.std.specs.Prelude.{◌≡◌};
+ghost use Rattle.vip_words.specs.Rules.{flag_name};
+
+/// An option that takes no word.
+#[derive(Clone, Copy)]
+pub enum Flag {
+    At,
+    Screen,
+    Words,
+    Tall,
+    State,
+    Raw,
+    Chip8,
+    Asm,
+    Echo,
+    Exits,
+    Rom,
+    Ram,
+    Sender,
+    Receiver,
+}
+
+/// Every flag, in order.
+pub const FLAGS: [Flag; 14] = [
+    Flag::At,
+    Flag::Screen,
+    Flag::Words,
+    Flag::Tall,
+    Flag::State,
+    Flag::Raw,
+    Flag::Chip8,
+    Flag::Asm,
+    Flag::Echo,
+    Flag::Exits,
+    Flag::Rom,
+    Flag::Ram,
+    Flag::Sender,
+    Flag::Receiver,
+];
+
+impl Flag {
+    /// Its name, which the user writes behind `--`.
+    pub fn name(self) -> &'static str
+        ensures { result.now ≡ flag_name self }
+    {
+        match self {
+            Flag::At => "at",
+            Flag::Screen => "screen",
+            Flag::Words => "words",
+            Flag::Tall => "tall",
+            Flag::State => "state",
+            Flag::Raw => "raw",
+            Flag::Chip8 => "chip8",
+            Flag::Asm => "asm",
+            Flag::Echo => "echo",
+            Flag::Exits => "exits",
+            Flag::Rom => "rom",
+            Flag::Ram => "ram",
+            Flag::Sender => "sender",
+            Flag::Receiver => "receiver",
+        }
+    }
+}
