@@ -4,6 +4,7 @@ use Rattle.std.specs.Prelude.{slice_set}
 use Rattle.std.proofs.lemmas.Bool.{and_parts, and_from, cases_Bool, cases_eq, eqb-true, eq-eqb, or_cases, or_parts}
 use Rattle.std.proofs.lemmas.Grind.{get_or-set_at}
 use Rattle.std.proofs.lemmas.List.{get_or-replicate, get_or-set_other, length-replicate, length-set}
+use Rattle.std.proofs.lemmas.Option.{same_Some}
 use Rattle.machine.specs.declared.Kind.{Kind}
 use Rattle.machine.specs.declared.Kind.TheVariants.{Ldi, Sex}
 use Rattle.cycle_check.specs.declared.grammar.Bound.{Bound}
@@ -11,12 +12,12 @@ use Rattle.cycle_check.specs.declared.grammar.Fact.{Fact}
 use Rattle.cycle_check.specs.declared.grammar.Fact.TheVariants as says
 use Rattle.cycle_check.specs.declared.grammar.Line.{Line}
 use Rattle.cycle_check.specs.declared.closed.Instruction.{Instruction}
-use Rattle.cycle_check.specs.declared.known.Known.{Known}
+use Rattle.cycle_check.specs.declared.known.Knowledge.{Knowledge}
 use Rattle.cycle_check.specs.declared.table.Way.{Way}
 use Rattle.cycle_check.specs.Table.{assigns_d, assigns_named, assigns_pointed, is_refused, x_after}
 use Rattle.cycle_check.specs.Closed.{fits_x, instruction_at, is_allowed, is_apart, is_loaded, is_shown, stays_loaded}
 use Rattle.cycle_check.specs.declared.forward.Forward.{Forward}
-use Rattle.cycle_check.specs.Forward.{AllKnown, IsKnown, Keeps, byte_after, byte_shows, common, is_known_behind, joined, kept_byte, known_behind, some_shows}
+use Rattle.cycle_check.specs.Forward.{AllKnown, IsKnown, StaysTrue, byte_after, byte_shows, common, is_known_behind, join, kept_byte, known_behind, some_shows}
 use Rattle.cycle_check.specs.Obstacles.{IsLost, IsRefused, IsWay, LeadsTo, MayBeAllowed}
 use Rattle.cycle_check.specs.Obstacles.LeadsTo.{Enters, Goes}
 use Rattle.cycle_check.specs.Obstacles.IsLost.{Passes, Unknown}
@@ -65,7 +66,7 @@ allowed-more bound line other i same fits allowed =
 -- ---- what is known
 
 -- a fact that isn't known
-abbrev pub Missing : Known → Fact → Type 0
+abbrev pub Missing : Knowledge → Fact → Type 0
 Missing known says.Any = ⊥
 Missing known says.Copy = known.copy ≡ false
 Missing known says.NonZero = known.some ≡ false
@@ -75,7 +76,7 @@ clash : {P : Type 0} (a : Bool) → a ≡ true → a ≡ false → P
 clash a holds fails = absurd (true≢false (sym holds ∙ fails))
 
 -- where no known fact shows a fact, each that shows it isn't known
-missing : (known : Known) (shows : Fact → Bool) → some_shows known shows ≡ false → (held : Fact) → shows held ≡ true → Missing known held
+missing : (known : Knowledge) (shows : Fact → Bool) → some_shows known shows ≡ false → (held : Fact) → shows held ≡ true → Missing known held
 missing known shows none held shown =
     let byte = or_parts (shows says.Any || (known.copy && shows says.Copy) || (known.some && shows says.NonZero)) (byte_shows known.byte shows) none in
     let some = or_parts (shows says.Any || (known.copy && shows says.Copy)) (known.some && shows says.NonZero) byte.0 in
@@ -124,7 +125,7 @@ after_any kind next byte held is = nothing is
     nothing : {P : Type 0} → None ≡ Some byte → P
     nothing e = cc
 
-known-loaded : (kind : Kind) (next byte : ℕ) (known : Known) → some_shows known (λ held. is_loaded kind (eqb next byte) byte held) ≡ true
+known-loaded : (kind : Kind) (next byte : ℕ) (known : Knowledge) → some_shows known (λ held. is_loaded kind (eqb next byte) byte held) ≡ true
     → byte_after kind next known.byte ≡ Some byte
 known-loaded kind next byte known shown =
     elim (or_cases (shows says.Any || (known.copy && shows says.Copy) || (known.some && shows says.NonZero)) (byte_shows known.byte shows) shown) [
@@ -156,8 +157,8 @@ module _ (rom : List ℕ) (bound : Bound) where
     byte = λ byte _. Unknown (says.Is byte) (λ e. cc);
   }
 
-  pub joined_known : (address : ℕ) (one other : Known) → IsKnown rom bound address one → IsKnown rom bound address other
-      → IsKnown rom bound address (joined one other)
+  pub joined_known : (address : ℕ) (one other : Knowledge) → IsKnown rom bound address one → IsKnown rom bound address other
+      → IsKnown rom bound address (join one other)
   joined_known address one other h h' = record {
     led = h.led;
     x = λ asked fits. fits-common asked one.x other.x (h.x asked fits) (h'.x asked fits);
@@ -176,15 +177,12 @@ module _ (rom : List ℕ) (bound : Bound) where
       byte_lost (Some a) (Some b) byte not_both one other = elim (cases_Bool (eqb a b)) [
         | inl same ↦ one (λ is. not_both (rw same is))
         | inr differ ↦ elim (cases_Bool (eqb a byte)) [
-          | inl is_a ↦ other (λ is. absurd (true≢false (sym (eq-eqb a b (eqb-true a byte is_a ∙ sym (some-is b byte is))) ∙ differ)))
-          | inr not_a ↦ one (λ is. absurd (true≢false (sym (eq-eqb a byte (some-is a byte is)) ∙ not_a)))
+          | inl is_a ↦ other (λ is. absurd (true≢false (sym (eq-eqb a b (eqb-true a byte is_a ∙ sym (same_Some b byte is))) ∙ differ)))
+          | inr not_a ↦ one (λ is. absurd (true≢false (sym (eq-eqb a byte (same_Some a byte is)) ∙ not_a)))
         ]
       ]
-        where
-          some-is : (a b : ℕ) → Some a ≡ Some b → a ≡ b
-          some-is a b e = cc
 
-  lost_of : (address : ℕ) (known : Known) → IsKnown rom bound address known → (held : Fact) → Missing known held → IsLost rom bound address held
+  lost_of : (address : ℕ) (known : Knowledge) → IsKnown rom bound address known → (held : Fact) → Missing known held → IsLost rom bound address held
   lost_of address known h says.Any gone = absurd gone
   lost_of address known h says.Copy gone = h.copy gone
   lost_of address known h says.NonZero gone = h.some gone
@@ -192,7 +190,7 @@ module _ (rom : List ℕ) (bound : Bound) where
 
   -- ---- behind an instruction
 
-  module _ (address to : ℕ) (known : Known) (way : Way) (h : IsKnown rom bound address known) (may : MayBeAllowed rom bound address)
+  module _ (address to : ℕ) (known : Knowledge) (way : Way) (h : IsKnown rom bound address known) (may : MayBeAllowed rom bound address)
       (is_way : IsWay rom bound address way to) where
     abbrev i : Instruction
     i = instruction_at rom address
@@ -234,7 +232,7 @@ module _ (rom : List ℕ) (bound : Bound) where
 
   -- ---- an address where no line is allowed
 
-  pub refused : (address : ℕ) (line : Line) (known : Known) → IsKnown rom bound address known → line.address ≡ address → line.x ≡ known.x
+  pub refused : (address : ℕ) (line : Line) (known : Knowledge) → IsKnown rom bound address known → line.address ≡ address → line.x ≡ known.x
       → is_allowed bound line (instruction_at rom address) ≡ false → IsRefused rom bound address
   refused address line known h here x_is none = record {
     led = h.led;
@@ -250,25 +248,22 @@ module _ (rom : List ℕ) (bound : Bound) where
 -- ---- the places in the ROM
 
 -- what is kept twice is kept
-pub keeps_on : (a b c : Forward) → Keeps a b → Keeps b c → Keeps a c
+pub keeps_on : (a b c : Forward) → StaysTrue a b → StaysTrue b c → StaysTrue a c
 keeps_on a b c first second = record { rom = second.rom ∙ first.rom; bound = second.bound ∙ first.bound; true_of = second.true_of }
 
 -- nothing is known where nothing was met
-pub none_met : (rom : List ℕ) (bound : Bound) (places : List (Option Known)) (n : ℕ) → places ≡ replicate n None → AllKnown rom bound places
+pub none_met : (rom : List ℕ) (bound : Bound) (places : List (Option Knowledge)) (n : ℕ) → places ≡ replicate n None → AllKnown rom bound places
 none_met rom bound places n is place other known within met =
     let below : place < n = rw length-replicate at (rw is at within) in
     let none : get_or places place other ≡ None = rw is (get_or-replicate n place None other below) in
     absurd (cc)
 
 pub all_set :
-    (rom : List ℕ) (bound : Bound) (places : List (Option Known)) (place : ℕ) (known : Known) → AllKnown rom bound places
+    (rom : List ℕ) (bound : Bound) (places : List (Option Knowledge)) (place : ℕ) (known : Knowledge) → AllKnown rom bound places
     → IsKnown rom bound (0x8000 + place) known → AllKnown rom bound (slice_set places place (Some known))
 all_set rom bound places place known all this place' other known' low is = elim (cases_eq place' place) [
   | inl same ↦
       let set : get_or (slice_set places place (Some known)) place' other ≡ Some known = get_or-set_at places place place' (Some known) other same (omega (arith, same, rw length-set at low)) in
-      rw (same, ← some-is known known' (sym set ∙ is)) this
+      rw (same, ← same_Some known known' (sym set ∙ is)) this
   | inr differ ↦ all place' other known' (rw length-set at low) (sym (get_or-set_other places place place' (Some known) other differ) ∙ is)
 ]
-  where
-    some-is : (a b : Known) → Some a ≡ Some b → a ≡ b
-    some-is a b e = cc

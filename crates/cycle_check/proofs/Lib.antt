@@ -7,5 +7,5 @@ pub mod Numbers
 pub mod Shown
 pub mod Soundness
 pub mod Leading
-pub mod Joined
+pub mod Appends
 mod Tried

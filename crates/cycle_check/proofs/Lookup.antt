@@ -3,6 +3,7 @@ use Rattle.std.proofs.Common.{◌≡◌, ℕ, zero, suc, ◌+◌, ◌<◌, ◌�
 use Rattle.std.specs.List.{AllWithin}
 use Rattle.std.proofs.lemmas.Bool.{eq-eqb, ne_eqb, eqb-true, ltb-true, ltb-false, cases_Bool, cases_lt}
 use Rattle.std.proofs.lemmas.List.{drop_more, drop_all}
+use Rattle.std.proofs.lemmas.Option.{same_Some}
 use Rattle.cycle_check.specs.declared.fault.CertCause.{CertCause}
 use Rattle.cycle_check.specs.declared.grammar.Line.{Line}
 use Rattle.cycle_check.specs.Closed.{line_at, first_from, placed, or_else}
@@ -24,16 +25,13 @@ line_at-none [] a absent = refl
 line_at-none (line ∷ lines) a absent =
     rw (ne_eqb line.address a (absent 0 line (omega arith))) (line_at-none lines a (λ k d within. absent (suc k) d (omega arith)))
 
-some_is : (x y : Line) → Some x ≡ Some y → x ≡ y
-some_is x y e = cc
-
 -- a line that was found has the address, and no cause where no line has one
 pub address_of-found : (lines : List Line) (a : ℕ) (line : Line) → line_at lines a ≡ Some line → line.address ≡ a
 address_of-found [] a line found = cc
 address_of-found (first ∷ lines) a line found = elim (cases_Bool (eqb first.address a)) [
   | inl same ↦
       let is : Some first ≡ Some line = rw same at found in
-      sym (ap (λ l. l.address) (some_is first line is)) ∙ eqb-true first.address a same
+      sym (ap (λ l. l.address) (same_Some first line is)) ∙ eqb-true first.address a same
   | inr other ↦ address_of-found lines a line (rw other at found)
 ]
 
@@ -54,7 +52,7 @@ cause_of-found cause place (first ∷ lines) a line fine found =
     elim (cases_Bool (eqb first.address a)) [
       | inl same ↦
           let is : Some first ≡ Some line = rw same at found in
-          ap cause (sym (some_is first line is)) ∙ placed_none place (cause first) parts.0
+          ap cause (sym (same_Some first line is)) ∙ placed_none place (cause first) parts.0
       | inr other ↦ cause_of-found cause (place + 1) lines a line parts.1 (rw other at found)
     ]
 

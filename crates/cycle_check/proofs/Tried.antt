@@ -1,6 +1,7 @@
 -- What a certificate that is found says, as it is read.
 use Rattle.std.proofs.Common.{◌≡◌, ℕ, ◌⊎◌, inl, inr, List, Option, true, Some, None, Ok, Err, refl, sym, ap, subst, ◌∙◌}
 use Rattle.std.specs.Prelude.{is_some}
+use Rattle.std.proofs.lemmas.Option.{same_Some}
 use Rattle.std.specs.List.{All}
 use Rattle.std.specs.Str.Lines.{lines}
 use Rattle.cycle_check.specs.declared.fault.CertCause.{CertCause}
@@ -31,12 +32,9 @@ module _ (rom text : List ℕ) (entry p k : ℕ) (draft : Certificate) (read : I
   pub has_bound : draft.bound ≡ None → ⊥
   has_bound none = let some = ap (λ (d : Certificate). d.bound) its in cc
 
-  some_is : (x y : Bound) → Some x ≡ Some y → x ≡ y
-  some_is x y e = cc
-
   pub found_of : (bound : Bound) → draft.bound ≡ Some bound → IsOf rom text entry p k bound draft.lines
   found_of bound bounded =
-      let same : found.bound ≡ bound = some_is found.bound bound (sym (ap (λ (d : Certificate). d.bound) its) ∙ bounded) in
+      let same : found.bound ≡ bound = same_Some found.bound bound (sym (ap (λ (d : Certificate). d.bound) its) ∙ bounded) in
       let lines : found.lines ≡ draft.lines = sym (ap (λ (d : Certificate). d.lines) its) in
       subst (λ ls. IsOf rom text entry p k bound ls) lines
       (subst (λ b. IsOf rom text entry p k b found.lines) same

@@ -3,17 +3,15 @@ use Rattle.std.specs.Prelude.{◌≡◌, ℕ, ◌+◌, ◌<◌, ◌==◌, ◌&&�
 use Rattle.machine.specs.declared.Kind.{Kind}
 use Rattle.machine.specs.declared.Kind.TheVariants.{Ldi}
 use Rattle.cycle_check.specs.declared.forward.Forward.{Forward}
-use Rattle.cycle_check.specs.declared.forward.Halt.{Halt}
-use Rattle.cycle_check.specs.declared.forward.Halt.TheVariants.{Refused, NoMemory}
 use Rattle.cycle_check.specs.declared.grammar.Bound.{Bound}
 use Rattle.cycle_check.specs.declared.grammar.Fact.{Fact}
 use Rattle.cycle_check.specs.declared.grammar.Fact.TheVariants as says
 use Rattle.cycle_check.specs.declared.closed.Instruction.{Instruction}
-use Rattle.cycle_check.specs.declared.known.Known.{Known}
+use Rattle.cycle_check.specs.declared.known.Knowledge.{Knowledge}
 use Rattle.cycle_check.specs.declared.table.When.{When}
 use Rattle.cycle_check.specs.Table.{x_after}
 use Rattle.cycle_check.specs.Closed.{fits_x, is_shown}
-use Rattle.cycle_check.specs.Obstacles.{FitsAll, IsLed, IsLost, IsRefused}
+use Rattle.cycle_check.specs.Obstacles.{FitsAll, IsLed, IsLost}
 
 -- ---- what is known
 
@@ -22,11 +20,11 @@ abbrev pub byte_shows : Option ℕ → (Fact → Bool) → Bool
 byte_shows None shows = false
 byte_shows (Some byte) shows = shows (says.Is byte)
 
-abbrev pub some_shows : Known → (Fact → Bool) → Bool
+abbrev pub some_shows : Knowledge → (Fact → Bool) → Bool
 some_shows known shows =
     shows says.Any || (known.copy && shows says.Copy) || (known.some && shows says.NonZero) || byte_shows known.byte shows
 
-unfoldable pub is_known_behind : ℕ → Instruction → When → Known → Fact → Bool
+unfoldable pub is_known_behind : ℕ → Instruction → When → Knowledge → Fact → Bool
 is_known_behind k i when known asked = some_shows known (λ held. is_shown k i held when 0 asked)
 
 -- the byte that D may be
@@ -34,12 +32,12 @@ abbrev pub byte_after : Kind → ℕ → Option ℕ → Option ℕ
 byte_after Ldi next byte = Some next
 byte_after kind next byte = byte
 
-abbrev pub kept_byte : ℕ → Instruction → When → Known → Option ℕ → Option ℕ
+abbrev pub kept_byte : ℕ → Instruction → When → Knowledge → Option ℕ → Option ℕ
 kept_byte k i when known None = None
 kept_byte k i when known (Some byte) = if is_known_behind k i when known (says.Is byte) then Some byte else None
 
 -- what is known behind an instruction
-unfoldable pub known_behind : ℕ → Instruction → When → Known → Known
+unfoldable pub known_behind : ℕ → Instruction → When → Knowledge → Knowledge
 known_behind k i when known = record {
   x = x_after i.op.kind i.op.n known.x;
   copy = is_known_behind k i when known says.Copy;
@@ -52,8 +50,8 @@ abbrev pub common : Option ℕ → Option ℕ → Option ℕ
 common (Some one) (Some other) = if one == other then Some one else None
 common one other = None
 
-abbrev pub joined : Known → Known → Known
-joined one other = record {
+abbrev pub join : Knowledge → Knowledge → Knowledge
+join one other = record {
   x = common one.x other.x;
   copy = one.copy && other.copy;
   some = one.some && other.some;
@@ -64,7 +62,7 @@ joined one other = record {
 
 module _ (rom : List ℕ) (bound : Bound) where
   -- Ways lead to an address, and what isn't known there is lost: an X that each of them gives is the one that is known.
-  pub record IsKnown (address : ℕ) (known : Known) : Type 0 where
+  pub record IsKnown (address : ℕ) (known : Knowledge) : Type 0 where
     pub led : IsLed rom bound address
     pub x : (asked : Option ℕ) → FitsAll rom bound address asked → fits_x asked known.x ≡ true
     pub copy : known.copy ≡ false → IsLost rom bound address says.Copy
@@ -72,20 +70,15 @@ module _ (rom : List ℕ) (bound : Bound) where
     pub byte : (byte : ℕ) → (known.byte ≡ Some byte → ⊥) → IsLost rom bound address (says.Is byte)
 
   -- at each place in the ROM
-  abbrev pub AllKnown : List (Option Known) → Type 0
-  AllKnown places = (place : ℕ) (other : Option Known) (known : Known) → place < length places → slice_index_or places place other ≡ Some known
+  abbrev pub AllKnown : List (Option Knowledge) → Type 0
+  AllKnown places = (place : ℕ) (other : Option Knowledge) (known : Knowledge) → place < length places → slice_index_or places place other ≡ Some known
       → IsKnown (0x8000 + place) known
-
-  -- an address at which a search ends is one where no line is allowed
-  abbrev pub IsHalt : Halt → Type 0
-  IsHalt (Refused address) = IsRefused rom bound address
-  IsHalt NoMemory = Unit {0}
 
 abbrev pub IsTrueOf : Forward → Type 0
 IsTrueOf f = AllKnown f.rom.now f.bound f.known.items
 
 -- the ROM and the bound stay, and what is known is true
-pub record Keeps (old new : Forward) : Type 0 where
+pub record StaysTrue (old new : Forward) : Type 0 where
   pub rom : new.rom.now ≡ old.rom.now
   pub bound : new.bound ≡ old.bound
   pub true_of : IsTrueOf new

@@ -1,8 +1,8 @@
-//! What is left at each line: the least STEP of a part that pays a turn of it, and then the least bases.
+//! What is left at each line: the least STEP of a component that pays a turn of it, and then the least bases.
 
 use crate::closed::{admits, counter_after, is_open, known_d, left};
+use crate::components::Component;
 use crate::graph::{Edge, Graph, Node};
-use crate::parts::Part;
 
 /// The values of the counter among which is one at which a line costs most: what it costs is straight between 1 and 254.
 const EXTREMES: [u8; 4] = [0, 1, 254, 255];
@@ -11,12 +11,12 @@ const EXTREMES: [u8; 4] = [0, 1, 254, 255];
 const MOST_HALVINGS: usize = 32;
 
 /// Finds what is left at each line of a routine, from its leaves back.
-pub fn find_costs(graph: &mut Graph, parts: &[Part]) {
-    for part in parts {
-        if part.is_loop {
-            settle_loop(graph, part.places.as_slice());
+pub fn find_costs(graph: &mut Graph, components: &[Component]) {
+    for component in components {
+        if component.is_loop {
+            settle_loop(graph, component.places.as_slice());
         } else {
-            settle_lines(graph, part.places.as_slice());
+            settle_lines(graph, component.places.as_slice());
         }
     }
 }

@@ -1,8 +1,11 @@
 //! The faults of a certificate.
 
 ghost use Rattle.std.specs.Prelude.{◌≡◌};
+ghost use Rattle.cycle_check.specs.Closed.{bytes_at};
+ghost use Rattle.cycle_check.specs.declared.fault.TimingFault.TheVariants.{NotFound};
 ghost use Rattle.cycle_check.specs.FaultNames.{cert_cause_name, timing_cause_name};
 
+use crate::closed::bytes_at;
 use std::alloc::AllocError;
 use std::error::Error;
 use std::fmt;
@@ -122,6 +125,17 @@ pub struct TimingObstacle {
 pub enum TimingFault {
     NotFound(TimingObstacle),
     NoMemory,
+}
+
+/// What stands against a certificate at an address of a ROM.
+pub fn obstacle(rom: &[u8], cause: TimingCause, address: u16) -> TimingFault
+    ensures { result ≡ NotFound (record { cause = cause; address = address; bytes = bytes_at rom.now address }) }
+{
+    TimingFault::NotFound(TimingObstacle {
+        cause,
+        address,
+        bytes: bytes_at(rom, address),
+    })
 }
 
 impl From<AllocError> for TimingFault {

@@ -2,22 +2,21 @@
 
 ghost use Rattle.std.specs.Prelude.{◌≡◌, ◌<◌, ◌≤◌, ◌⊎◌, ◌++◌, ◌∷◌, [], ◌≢◌, true, false, length, IfOk, IfErr, IfSome, OnOk, None, Some};
 ghost use Rattle.std.specs.List.{All};
-ghost use Rattle.cycle_check.specs.declared.fault.TimingFault.TheVariants.{NotFound, NoMemory};
-ghost use Rattle.cycle_check.specs.Closed.{bytes_at};
+ghost use Rattle.cycle_check.specs.declared.fault.TimingFault.TheVariants.{NoMemory};
 ghost use Rattle.cycle_check.specs.Forward.{IsTrueOf};
 ghost use Rattle.cycle_check.specs.Found.{FailsWith, HasLimit, IsFound, IsOfWays, IsTimingFault};
 ghost use Rattle.cycle_check.specs.Obstacles.{IsLeast, IsLed, IsMost, IsUncounted};
 ghost use Rattle.cycle_check.specs.Reading.{AreRising, IsRead};
 
 use crate::certificate::{Draft, is_behind, read_certificate};
-use crate::closed::{bytes_at, fault_in, first_cause, instruction_at, is_closed, left, line_at};
+use crate::closed::{fault_in, first_cause, instruction_at, is_closed, left, line_at};
+use crate::components::{Found, find_components};
 use crate::cost::find_costs;
 use crate::exits::{all_leave_rom, exits_of};
-use crate::fault::{CertFault, TimingCause, TimingFault, TimingObstacle};
-use crate::forward::{Forward, Halt, explore};
+use crate::fault::{CertFault, TimingCause, TimingFault, obstacle};
+use crate::forward::{Forward, explore};
 use crate::grammar::{Bound, Line, MOST_LEFT};
 use crate::graph::{Graph, graph_of};
-use crate::parts::{Found, find_parts};
 use crate::write::text_of;
 use std::alloc::{AllocError, Global};
 use vip_byte::MOST_TEXT;
@@ -47,11 +46,8 @@ pub fn find_timing(
         k,
         limit: 0,
     };
-    match explore(alloc, rom, start) {
-        Ok(forward) => find_in(alloc, &forward),
-        Err(Halt::Refused(address)) => Err(obstacle(rom, TimingCause::Opcode, address)),
-        Err(Halt::NoMemory) => Err(TimingFault::NoMemory),
-    }
+    let forward = explore(alloc, rom, start)?;
+    find_in(alloc, &forward)
 }
 
 // Finds a certificate whose lines are those of the addresses that were met.
@@ -62,27 +58,17 @@ fn find_in(alloc: Global, forward: &Forward) -> Result<Vec<u8>, TimingFault>
 {
     let mut graph = graph_of(alloc, forward)?;
     let mut last = forward.bound.entry;
-    match find_parts(alloc, &graph)? {
+    match find_components(alloc, &graph)? {
         Found::Turn(turn) => {
             if let Some(address) = uncounted_in(forward, turn.as_slice()) {
                 return Err(obstacle(forward.rom, TimingCause::Loop, address));
             }
             last = first_of(turn.as_slice(), last);
         }
-        Found::Parts(parts) => find_costs(&mut graph, parts.as_slice()),
+        Found::Components(components) => find_costs(&mut graph, components.as_slice()),
     }
     let lines = lines_of(alloc, forward, &graph)?;
     certify(alloc, forward, lines.as_slice(), last)
-}
-
-fn obstacle(rom: &[u8], cause: TimingCause, address: u16) -> TimingFault
-    ensures { result ≡ NotFound (record { cause = cause; address = address; bytes = bytes_at rom.now address }) }
-{
-    TimingFault::NotFound(TimingObstacle {
-        cause,
-        address,
-        bytes: bytes_at(rom, address),
-    })
 }
 
 // The first address of a turn that isn't counted.

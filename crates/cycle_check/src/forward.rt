@@ -6,13 +6,14 @@
 ghost use Rattle.std.specs.Prelude.{◌≡◌, ◌+◌, ◌<◌, ◌≤◌, OnOk, IfOk, IfErr, IfSome, MatchOption, None, true};
 ghost use Rattle.cycle_check.specs.declared.grammar.Fact.TheVariants.{NonZero};
 ghost use Rattle.cycle_check.specs.Closed.{instruction_at, ways_from};
-ghost use Rattle.cycle_check.specs.Found.{IsOfWays};
-ghost use Rattle.cycle_check.specs.Forward.{IsHalt, IsKnown, IsTrueOf, Keeps};
+ghost use Rattle.cycle_check.specs.Found.{IsOfWays, IsTimingFault};
+ghost use Rattle.cycle_check.specs.Forward.{IsKnown, IsTrueOf, StaysTrue};
 ghost use Rattle.cycle_check.specs.Obstacles.{IsLed, IsLost, IsOneOf, MayBeAllowed};
 
 use crate::closed::{Instruction, instruction_at, is_allowed, is_shown, lets_through, ways_from};
+use crate::fault::{TimingCause, TimingFault, obstacle};
 use crate::grammar::{Bound, Fact, Line};
-use crate::known::Known;
+use crate::known::Knowledge;
 use crate::table::{Way, assigns_d, assigns_named};
 use std::alloc::{AllocError, Global};
 use vip_isa::Kind;
@@ -37,26 +38,6 @@ struct Barred {
     byte: bool,
 }
 
-/// Where a search ends at once.
-#[derive(Drop)]
-pub enum Halt {
-    /// At an address where no line is allowed.
-    Refused(u16),
-    /// No memory was left.
-    NoMemory,
-}
-
-impl From<AllocError> for Halt {
-    ghost use Rattle.std.specs.Prelude.{◌≡◌};
-    ghost use Rattle.cycle_check.specs.declared.forward.Halt.TheVariants.{NoMemory};
-
-    ghost from_gives = { λ _ halt. halt ≡ NoMemory };
-
-    fn from(_error: AllocError) -> Halt {
-        Halt::NoMemory
-    }
-}
-
 /// What an instruction does with what is known of D.
 enum Use {
     /// It branches on D, or puts it into the counter register.
@@ -73,7 +54,7 @@ pub struct Forward<'a> {
     pub rom: &'a [u8],
     pub bound: Bound,
     // what is known at each place in the ROM that was met
-    known: Vec<Option<Known>>,
+    known: Vec<Option<Knowledge>>,
     barred: Vec<Barred>,
     // the addresses to be followed, with what is known now
     waiting: Vec<u16>,
@@ -91,11 +72,11 @@ pub fn place_of(address: u32) -> Option<usize>
 }
 
 /// Follows the ways from the entry of a bound on.
-pub fn explore<'a>(alloc: Global, rom: &'a [u8], bound: Bound) -> Result<Forward<'a>, Halt>
+pub fn explore<'a>(alloc: Global, rom: &'a [u8], bound: Bound) -> Result<Forward<'a>, TimingFault>
     ensures rom { IfOk result (λ forward. forward.rom.now ≡ rom.entry.now) }
     ensures bound { IfOk result (λ forward. forward.bound ≡ bound) }
     ensures true_of { IfOk result IsTrueOf }
-    ensures fault { IfErr result (IsHalt rom.entry.now bound) }
+    ensures fault { IfErr result (IsTimingFault rom.entry.now bound) }
 {
     let free = Barred {
         copy: false,
@@ -115,10 +96,10 @@ pub fn explore<'a>(alloc: Global, rom: &'a [u8], bound: Bound) -> Result<Forward
 
 impl Forward<'_> {
     // Follows the ways until each line's fact is shown by all lines that lead to it.
-    fn settle(&mut self, alloc: Global) -> Result<(), Halt>
+    fn settle(&mut self, alloc: Global) -> Result<(), TimingFault>
         requires { IsTrueOf self.now }
-        ensures keeps { OnOk result (Keeps self.old self.new) }
-        ensures fault { IfErr result (IsHalt self.old.rom.now self.old.bound) }
+        ensures stays { OnOk result (StaysTrue self.old self.new) }
+        ensures fault { IfErr result (IsTimingFault self.old.rom.now self.old.bound) }
     {
         for _ in 0..MOST_PASSES {
             self.pass(alloc)?;
@@ -130,15 +111,15 @@ impl Forward<'_> {
     }
 
     // Meets the entry, and all that it leads to, anew.
-    fn pass(&mut self, alloc: Global) -> Result<(), Halt>
+    fn pass(&mut self, alloc: Global) -> Result<(), TimingFault>
         requires { IsTrueOf self.now }
-        ensures keeps { OnOk result (Keeps self.old self.new) }
-        ensures fault { IfErr result (IsHalt self.old.rom.now self.old.bound) }
+        ensures stays { OnOk result (StaysTrue self.old self.new) }
+        ensures fault { IfErr result (IsTimingFault self.old.rom.now self.old.bound) }
     {
         self.known = vec![in alloc; None; ROM_SIZE]?;
         self.waiting.clear();
         let entry = self.bound.entry;
-        let start = Known::nothing();
+        let start = Knowledge::nothing();
         self.follow_with(entry, &start)?;
         self.meet(u32::from(entry), start)?;
         for _ in 0..MOST_TURNS {
@@ -151,7 +132,7 @@ impl Forward<'_> {
     }
 
     // What is known at an address that was met.
-    fn known_at(&self, address: u32) -> Option<Known>
+    fn known_at(&self, address: u32) -> Option<Knowledge>
         requires { IsTrueOf self.now }
         ensures { IfSome result (IsKnown self.now.rom.now self.now.bound address) }
     {
@@ -162,10 +143,10 @@ impl Forward<'_> {
     }
 
     // Meets what is behind an address.
-    fn follow(&mut self, address: u16) -> Result<(), Halt>
+    fn follow(&mut self, address: u16) -> Result<(), TimingFault>
         requires { IsTrueOf self.now }
-        ensures keeps { OnOk result (Keeps self.old self.new) }
-        ensures fault { IfErr result (IsHalt self.old.rom.now self.old.bound) }
+        ensures stays { OnOk result (StaysTrue self.old self.new) }
+        ensures fault { IfErr result (IsTimingFault self.old.rom.now self.old.bound) }
     {
         match self.known_at(u32::from(address)) {
             Some(known) => self.follow_with(address, &known),
@@ -174,16 +155,16 @@ impl Forward<'_> {
     }
 
     // Meets what is behind an address where this is known.
-    fn follow_with(&mut self, address: u16, known: &Known) -> Result<(), Halt>
+    fn follow_with(&mut self, address: u16, known: &Knowledge) -> Result<(), TimingFault>
         requires true_of { IsTrueOf self.now }
         requires known { IsKnown self.now.rom.now self.now.bound address known.now }
-        ensures keeps { OnOk result (Keeps self.old self.new) }
-        ensures fault { IfErr result (IsHalt self.old.rom.now self.old.bound) }
+        ensures stays { OnOk result (StaysTrue self.old self.new) }
+        ensures fault { IfErr result (IsTimingFault self.old.rom.now self.old.bound) }
     {
         let line = self.line_with(address, known);
         let instruction = instruction_at(self.rom, address);
         if !is_allowed(&self.bound, &line, &instruction) {
-            return Err(Halt::Refused(address));
+            return Err(obstacle(self.rom, TimingCause::Opcode, address));
         }
         let ways = ways_from(&self.bound, address, &instruction);
         self.go(known, &line, &instruction, ways.first)?;
@@ -196,7 +177,7 @@ impl Forward<'_> {
     // Goes a way to an address of the ROM, where the fact of the line lets it through.
     fn go(
         &mut self,
-        known: &Known,
+        known: &Knowledge,
         line: &Line,
         instruction: &Instruction,
         way: Way,
@@ -206,7 +187,7 @@ impl Forward<'_> {
         requires allowed { MayBeAllowed self.now.rom.now self.now.bound line.now.address }
         requires instruction { instruction.now ≡ instruction_at self.now.rom.now line.now.address }
         requires way { IsOneOf self.now.rom.now self.now.bound line.now.address way }
-        ensures { OnOk result (Keeps self.old self.new) }
+        ensures { OnOk result (StaysTrue self.old self.new) }
     {
         if !lets_through(line.fact, way.when) {
             return Ok(());
@@ -221,10 +202,10 @@ impl Forward<'_> {
     }
 
     // Meets an address where this is known, if it lies in the ROM.
-    fn meet(&mut self, address: u32, known: Known) -> Result<(), AllocError>
+    fn meet(&mut self, address: u32, known: Knowledge) -> Result<(), AllocError>
         requires true_of { IsTrueOf self.now }
         requires known { IsKnown self.now.rom.now self.now.bound address known }
-        ensures { OnOk result (Keeps self.old self.new) }
+        ensures { OnOk result (StaysTrue self.old self.new) }
     {
         let before = self.known_at(address);
         let joined = match before {
@@ -238,10 +219,10 @@ impl Forward<'_> {
     }
 
     // What is known at an address of the ROM is this now, and it is to be followed.
-    fn set(&mut self, address: u32, known: Known) -> Result<(), AllocError>
+    fn set(&mut self, address: u32, known: Knowledge) -> Result<(), AllocError>
         requires true_of { IsTrueOf self.now }
         requires known { IsKnown self.now.rom.now self.now.bound address known }
-        ensures { OnOk result (Keeps self.old self.new) }
+        ensures { OnOk result (StaysTrue self.old self.new) }
     {
         let Some(place) = place_of(address) else {
             return Ok(());
@@ -252,10 +233,10 @@ impl Forward<'_> {
     }
 
     // What is known at a place is this now.
-    fn put(&mut self, place: usize, known: Known)
+    fn put(&mut self, place: usize, known: Knowledge)
         requires true_of { IsTrueOf self.now }
         requires known { IsKnown self.now.rom.now self.now.bound (0x8000 + place) known }
-        ensures { Keeps self.old self.new }
+        ensures { StaysTrue self.old self.new }
     {
         if place < self.known.len() {
             self.known[place] = Some(known);
@@ -263,7 +244,7 @@ impl Forward<'_> {
     }
 
     // The line of an address, which doesn't say yet what is left.
-    fn line_with(&self, address: u16, known: &Known) -> Line
+    fn line_with(&self, address: u16, known: &Knowledge) -> Line
         ensures address { result.address ≡ address }
         ensures x { result.x ≡ known.now.x }
     {
@@ -277,7 +258,7 @@ impl Forward<'_> {
     }
 
     // The fact that the line of an address says, of those that hold and aren't barred: what D is counts where D is asked for soon.
-    fn choose(&self, address: u16, known: &Known) -> Fact {
+    fn choose(&self, address: u16, known: &Knowledge) -> Fact {
         let Some(barred) = self.barred_at(address) else {
             return Fact::Any;
         };
@@ -337,7 +318,7 @@ impl Forward<'_> {
     // Bars each fact of a line that a line which leads there doesn't show. False where there is none.
     fn bar_all(&mut self) -> bool
         requires { IsTrueOf self.now }
-        ensures { Keeps self.old self.new }
+        ensures { StaysTrue self.old self.new }
     {
         let mut found = false;
         for address in 0x8000..0x8800u16 {
@@ -351,7 +332,7 @@ impl Forward<'_> {
     // Bars the facts of the lines behind an address that its line doesn't show. False where there is none.
     fn bar_behind(&mut self, address: u16) -> bool
         requires { IsTrueOf self.now }
-        ensures { Keeps self.old self.new }
+        ensures { StaysTrue self.old self.new }
     {
         let Some(known) = self.known_at(u32::from(address)) else {
             return false;
@@ -368,9 +349,15 @@ impl Forward<'_> {
 
     // Bars the fact of the line at the end of a way, where the way doesn't show it. False where it does. Where the line says what D is and could say
     // that the counter isn't 0, which is asked for, its own fact is barred instead.
-    fn bar_at(&mut self, known: &Known, line: &Line, instruction: &Instruction, way: Way) -> bool
+    fn bar_at(
+        &mut self,
+        known: &Knowledge,
+        line: &Line,
+        instruction: &Instruction,
+        way: Way,
+    ) -> bool
         requires { IsTrueOf self.now }
-        ensures { Keeps self.old self.new }
+        ensures { StaysTrue self.old self.new }
     {
         let k = self.bound.k;
         match self.asked_at(way) {
@@ -393,7 +380,7 @@ impl Forward<'_> {
     }
 
     // Whether a line that says what D is could say that the counter isn't 0.
-    fn may_say_some(&self, known: &Known, line: &Line) -> bool {
+    fn may_say_some(&self, known: &Knowledge, line: &Line) -> bool {
         match (line.fact, self.barred_at(line.address)) {
             (Fact::Copy | Fact::Is(_), Some(barred)) => known.some && !barred.some,
             _ => false,
@@ -413,7 +400,7 @@ impl Forward<'_> {
     // Bars a fact at a place.
     fn bar(&mut self, place: usize, fact: Fact)
         requires { IsTrueOf self.now }
-        ensures { Keeps self.old self.new }
+        ensures { StaysTrue self.old self.new }
     {
         if let Some(barred) = self.barred.get_mut(place) {
             match fact {

@@ -98,6 +98,14 @@ impl Graph {
         }
     }
 
+    /// Whether the line at a place may give the counter another value than one less.
+    pub fn assigns(&self, place: usize) -> bool {
+        match self.node(place) {
+            Some(node) => node.assigns(self.k),
+            None => false,
+        }
+    }
+
     // The ways from a place, all of them, or only where it doesn't take from the counter.
     fn edges(&self, place: usize, counts: bool) -> [Option<Edge>; 2] {
         match self.node(place) {

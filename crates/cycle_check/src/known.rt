@@ -1,7 +1,7 @@
 //! What is known at an address, whichever way led there.
 
 ghost use Rattle.std.specs.Prelude.{◌≡◌, None, false};
-ghost use Rattle.cycle_check.specs.Forward.{byte_after, byte_shows, common, is_known_behind, joined, kept_byte, known_behind};
+ghost use Rattle.cycle_check.specs.Forward.{byte_after, byte_shows, common, is_known_behind, join, kept_byte, known_behind};
 ghost use Rattle.cycle_check.specs.Closed.{is_shown};
 
 use crate::closed::{Instruction, is_shown};
@@ -11,7 +11,7 @@ use vip_isa::Kind;
 
 /// What is known at an address: X, and the facts that hold, of which a line says one.
 #[derive(Clone, Copy, PartialEq, Eq)]
-pub struct Known {
+pub struct Knowledge {
     /// X, where every way gives the same.
     pub x: Option<u8>,
     /// D is the counter.
@@ -22,12 +22,12 @@ pub struct Known {
     pub byte: Option<u8>,
 }
 
-impl Known {
+impl Knowledge {
     /// At the entry nothing is known.
-    pub fn nothing() -> Known
+    pub fn nothing() -> Knowledge
         ensures { result ≡ record { x = None; copy = false; some = false; byte = None } }
     {
-        Known {
+        Knowledge {
             x: None,
             copy: false,
             some: false,
@@ -48,11 +48,11 @@ impl Known {
 
     /// What is known behind an instruction, on a way under a condition.
     #[tactic(auto, unfolding(crate::specs::Forward::known_behind))]
-    pub fn behind(&self, k: u8, instruction: &Instruction, when: When) -> Known
+    pub fn behind(&self, k: u8, instruction: &Instruction, when: When) -> Knowledge
         ensures { result ≡ known_behind k instruction.now when self.now }
     {
         let byte = byte_after(instruction, self.byte);
-        Known {
+        Knowledge {
             x: x_after(instruction.op, self.x),
             copy: self.shows(k, instruction, when, Fact::Copy),
             some: self.shows(k, instruction, when, Fact::NonZero),
@@ -77,10 +77,10 @@ impl Known {
     }
 
     /// What is known where two ways join.
-    pub fn join(&self, other: &Known) -> Known
-        ensures { result ≡ joined self.now other.now }
+    pub fn join(&self, other: &Knowledge) -> Knowledge
+        ensures { result ≡ join self.now other.now }
     {
-        Known {
+        Knowledge {
             x: common(self.x, other.x),
             copy: self.copy && other.copy,
             some: self.some && other.some,

@@ -12,13 +12,15 @@
 //! aren't counted.
 #![tactic(auto)]
 
-ghost use Rattle.std.specs.Prelude.{◌≡◌, ◌≤◌, ◌⊎◌, length, Ok, Err, IfOk, IfErr};
+ghost use Rattle.std.specs.Prelude.{◌≡◌, ◌≤◌, ◌⊎◌, length, Some, Ok, Err, IfOk, IfErr};
 ghost use Rattle.cycle_check.specs.Closed.{checked};
 ghost use Rattle.cycle_check.specs.Exits.{exits_in};
 ghost use Rattle.cycle_check.specs.Leaving.{IsWithin};
+ghost use Rattle.cycle_check.specs.Reading.{IsRead};
 
 mod certificate;
 mod closed;
+mod components;
 mod cost;
 mod exits;
 mod fault;
@@ -28,17 +30,17 @@ mod grammar;
 mod graph;
 mod known;
 pub mod laws;
-mod parts;
 mod table;
 mod turn;
 mod write;
 
-use crate::certificate::{read_certificate, statement_number};
+use crate::certificate::{Draft, read_certificate, statement_number};
 use crate::closed::fault_in;
 pub use crate::exits::Exit;
 use crate::exits::exits_of;
 pub use crate::fault::{CertCause, CertFault, TimingCause, TimingFault, TimingObstacle};
 pub use crate::find::find_timing;
+use crate::grammar::Bound;
 use std::alloc::Global;
 use vip_byte::MOST_TEXT;
 
@@ -72,23 +74,8 @@ pub fn check_cycles(alloc: Global, rom: &[u8; 2048], text: &[u8]) -> Result<With
         (λ fault. (fault ≡ CertFault.NoMemory) ⊎ (checked rom.now text.now ≡ Err fault)) }
     ensures within { IfOk result (λ within. IsWithin rom.now text.now within) }
 {
-    let certificate = read_certificate(alloc, text)?;
-    let Some(bound) = certificate.bound() else {
-        return Err(CertFault::Fault {
-            line: 1,
-            cause: CertCause::BadLine,
-        });
-    };
-    match fault_in(rom, &bound, certificate.lines()) {
-        Some((place, cause)) => Err(CertFault::Fault {
-            line: statement_number(text, place),
-            cause,
-        }),
-        None => Ok(Within {
-            entry: bound.entry,
-            limit: bound.limit,
-        }),
-    }
+    let (bound, _) = accept(alloc, rom, text)?;
+    Ok(promise(&bound))
 }
 
 /// Checks a certificate as `check_cycles` does, and gives its exits with what it promises: for each line and next address without a line that
@@ -105,24 +92,43 @@ pub fn check_exits(
         (λ fault. (fault ≡ CertFault.NoMemory) ⊎ (checked rom.now text.now ≡ Err fault)) }
     ensures within { IfOk result (λ answer. IsWithin rom.now text.now answer.0) }
 {
-    let within = check_cycles(alloc, rom, text)?;
-    let exits = read_exits(alloc, rom, text)?;
-    Ok((within, exits))
+    let (bound, certificate) = accept(alloc, rom, text)?;
+    let exits = exits_of(alloc, rom, &bound, certificate.lines())?;
+    Ok((promise(&bound), exits))
 }
 
-// The exits of a certificate.
-fn read_exits(alloc: Global, rom: &[u8], text: &[u8]) -> Result<Vec<Exit>, CertFault>
+// What an accepted certificate promises.
+fn promise(bound: &Bound) -> Within
+    ensures { result ≡ record { entry = bound.now.entry; limit = bound.now.limit } }
+{
+    Within {
+        entry: bound.entry,
+        limit: bound.limit,
+    }
+}
+
+// A certificate that is accepted, with its bound.
+fn accept(alloc: Global, rom: &[u8; 2048], text: &[u8]) -> Result<(Bound, Draft), CertFault>
     requires { length text.now ≤ MOST_TEXT }
-    ensures exits { IfOk result (λ exits. exits.items ≡ exits_in rom.now text.now) }
+    ensures accepted { IfOk result (λ got. checked rom.now text.now ≡ Ok (record { entry = got.0.entry; limit = got.0.limit })) }
+    ensures read { IfOk result (λ got. IsRead text.now got.1) }
+    ensures bound { IfOk result (λ got. got.1.bound ≡ Some got.0) }
     ensures fault { IfErr result
         (λ fault. (fault ≡ CertFault.NoMemory) ⊎ (checked rom.now text.now ≡ Err fault)) }
+    ensures within { IfOk result (λ got. IsWithin rom.now text.now (record { entry = got.0.entry; limit = got.0.limit })) }
 {
     let certificate = read_certificate(alloc, text)?;
-    match certificate.bound() {
-        Some(bound) => {
-            let exits = exits_of(alloc, rom, &bound, certificate.lines())?;
-            Ok(exits)
-        }
-        None => Ok(Vec::new(alloc)),
+    let Some(bound) = certificate.bound() else {
+        return Err(CertFault::Fault {
+            line: 1,
+            cause: CertCause::BadLine,
+        });
+    };
+    match fault_in(rom, &bound, certificate.lines()) {
+        Some((place, cause)) => Err(CertFault::Fault {
+            line: statement_number(text, place),
+            cause,
+        }),
+        None => Ok((bound, certificate)),
     }
 }

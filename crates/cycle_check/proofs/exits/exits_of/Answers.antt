@@ -1,6 +1,6 @@
 use Rattle.std.proofs.Common.{[]}
 use Rattle.cycle_check.specs.Exits.{exits_at}
-use Rattle.cycle_check.proofs.Joined.{all_of, one_more}
+use Rattle.cycle_check.proofs.Appends.{all_of, one_more}
 use Rattle.cycle_check.proofs.exits.exits_of.Goals as goal
 
 pub loop-line-preserved : goal.loop-line-preserved

@@ -1,5 +1,5 @@
 use Rattle.cycle_check.specs.Found.{bound_text, line_text}
-use Rattle.cycle_check.proofs.Joined.{all_of, one_more}
+use Rattle.cycle_check.proofs.Appends.{all_of, one_more}
 use Rattle.cycle_check.proofs.write.certificate_text.Goals as goal
 
 pub loop-line-preserved : goal.loop-line-preserved

@@ -2,7 +2,7 @@ use Rattle.std.proofs.Common.{[], ◌∷◌, ◌++◌, ap, ◌∙◌}
 use Rattle.std.specs.Prelude.{codes, decimal}
 use Rattle.vip_byte.specs.HexText.{hex4}
 use Rattle.cycle_check.specs.Found.{fact_text, line_text, x_text}
-use Rattle.cycle_check.proofs.Joined.{five_more, two_more}
+use Rattle.cycle_check.proofs.Appends.{five_more, two_more}
 use Rattle.cycle_check.proofs.write.put_line.Goals as goal
 
 pub returns : goal.returns

@@ -2,7 +2,7 @@ use Rattle.std.proofs.Common.{◌++◌}
 use Rattle.std.specs.Prelude.{codes}
 use Rattle.cycle_check.specs.Exits.{exit_line}
 use Rattle.cycle_check.specs.Found.{certificate_text}
-use Rattle.cycle_check.proofs.Joined.{all_of, one_more}
+use Rattle.cycle_check.proofs.Appends.{all_of, one_more}
 use Rattle.cycle_check.proofs.write.text_of.Goals as goal
 
 pub loop-exit-preserved : goal.loop-exit-preserved

@@ -1,7 +1,7 @@
 use Rattle.std.proofs.Common.{ap, ◌∙◌, ◌++◌}
 use Rattle.std.specs.Prelude.{codes}
 use Rattle.vip_byte.specs.HexText.{hex4}
-use Rattle.cycle_check.proofs.Joined.{two_more}
+use Rattle.cycle_check.proofs.Appends.{two_more}
 use Rattle.cycle_check.proofs.exits.Exit.put_end.Goals as goal
 
 pub returns-in-Some-clause-items : goal.returns-in-Some-clause-items

@@ -6,9 +6,12 @@ use Rattle.cycle_check.proofs.forward.Forward.follow_with.Goals as goal
 
 pub returns-then-not-is_allowed-clause-fault : goal.returns-then-not-is_allowed-clause-fault
 returns-then-not-is_allowed-clause-fault c =
-    refused c.args.self.now.rom.now c.args.self.now.bound c.args.address c.line_with-line.result c.args.known.now c.requires.known
-    c.line_with-line.ensures.address c.line_with-line.ensures.x
-    (rw (← c.instruction_at-instruction.ensures) (sym c.is_allowed.ensures ∙ c.if-not-is_allowed.true))
+    rw c.obstacle.ensures (
+      refused c.args.self.now.rom.now c.args.self.now.bound c.args.address c.line_with-line.result c.args.known.now c.requires.known
+          c.line_with-line.ensures.address c.line_with-line.ensures.x
+          (rw (← c.instruction_at-instruction.ensures) (sym c.is_allowed.ensures ∙ c.if-not-is_allowed.true)),
+      refl,
+    )
 
 -- ---- the first way
 
@@ -68,8 +71,8 @@ returns-in_err-go-2-clause-fault c =
     let none = err_from_is_err_and c.from_residual-in_err-go-2.result c.from_residual-in_err-go-2.ensures.1 in
     rw (none.1, none.2) tt
 
-pub returns-in_ok-go-2-clause-keeps : goal.returns-in_ok-go-2-clause-keeps
-returns-in_ok-go-2-clause-keeps c = keeps_on c.args.self.now c.go.new.self c.go-in-Some.new.self c.in_ok-go.ensures c.in_ok-go-2.ensures
+pub returns-in_ok-go-2-clause-stays : goal.returns-in_ok-go-2-clause-stays
+returns-in_ok-go-2-clause-stays c = keeps_on c.args.self.now c.go.new.self c.go-in-Some.new.self c.in_ok-go.ensures c.in_ok-go-2.ensures
 
-pub returns-in_default-clause-keeps : goal.returns-in_default-clause-keeps
-returns-in_default-clause-keeps c = c.in_ok-go.ensures
+pub returns-in_default-clause-stays : goal.returns-in_default-clause-stays
+returns-in_default-clause-stays c = c.in_ok-go.ensures

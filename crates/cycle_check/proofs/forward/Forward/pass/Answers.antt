@@ -7,7 +7,7 @@ follow_with-requires-clause-known c = rw c.nothing-start.ensures (nothing_known 
 
 pub meet-requires-clause-known : goal.meet-requires-clause-known
 meet-requires-clause-known c =
-    rw (c.nothing-start.ensures, c.from.ensures, c.in_ok-follow_with.ensures.keeps.rom, c.in_ok-follow_with.ensures.keeps.bound)
+    rw (c.nothing-start.ensures, c.from.ensures, c.in_ok-follow_with.ensures.stays.rom, c.in_ok-follow_with.ensures.stays.bound)
     (nothing_known c.args.self.now.rom.now c.args.self.now.bound)
 
 pub follow_with-requires-clause-true_of : goal.follow_with-requires-clause-true_of

@@ -5,7 +5,7 @@ use Rattle.cycle_check.specs.Certificate.{numbers_from}
 use Rattle.cycle_check.specs.Closed.{unless}
 use Rattle.cycle_check.proofs.Answered.{checked-refused, checked-silent, checked-judged}
 use Rattle.cycle_check.proofs.Soundness.{accepted-within}
-use Rattle.cycle_check.proofs.check_cycles.Goals as goal
+use Rattle.cycle_check.proofs.accept.Goals as goal
 
 pub returns-in_err-certificate-clause-fault : goal.returns-in_err-certificate-clause-fault
 returns-in_err-certificate-clause-fault c =
@@ -26,15 +26,15 @@ returns-in-Some-fault_in-clause-fault c =
     let found = rw c.lines.ensures.items at (sym c.fault_in.ensures ∙ c.in-Some-fault_in.is) in
     inr (judged ∙ rw (found, c.statement_number.ensures) refl)
 
-pub returns-clause-accepted : goal.returns-clause-accepted
-returns-clause-accepted c =
+pub returns-in-None-clause-accepted : goal.returns-in-None-clause-accepted
+returns-in-None-clause-accepted c =
     let judged = checked-judged c.args.rom.now c.args.text.now c.in_ok-certificate.certificate c.in-Some.bound c.in_ok-certificate.ensures.read
     (sym c.bound.ensures ∙ c.in-Some.is) in
     let fine = rw c.lines.ensures.items at (sym c.fault_in.ensures ∙ c.in-None.is) in
     judged ∙ ap (unless (numbers_from 1 (lines c.args.text.now)) c.in-Some.bound) fine
 
-pub returns-clause-within : goal.returns-clause-within
-returns-clause-within c =
+pub returns-in-None-clause-within : goal.returns-in-None-clause-within
+returns-in-None-clause-within c =
     let judged = checked-judged c.args.rom.now c.args.text.now c.in_ok-certificate.certificate c.in-Some.bound c.in_ok-certificate.ensures.read
     (sym c.bound.ensures ∙ c.in-Some.is) in
     let fine = rw c.lines.ensures.items at (sym c.fault_in.ensures ∙ c.in-None.is) in

@@ -3,10 +3,10 @@ use Rattle.std.proofs.Common.{◌≡◌, ℕ, ◌+◌, ◌<◌, ◌≤◌, List,
 use Rattle.std.specs.List.{flat_map}
 use Rattle.std.proofs.lemmas.List.{flat_map_more, take_all, take_more}
 
-pub joined :
+pub four_more :
     (old a b c d one two three four : List ℕ) → one ≡ old ++ a → two ≡ one ++ b → three ≡ two ++ c → four ≡ three ++ d
     → four ≡ old ++ ((a ++ b) ++ (c ++ d))
-joined old a b c d one two three four first second third fourth =
+four_more old a b c d one two three four first second third fourth =
     rw (fourth, third, second, first)
     (ap (λ text. (text ++ c) ++ d) (append_assoc old a b) ∙ append_assoc (old ++ (a ++ b)) c d ∙ append_assoc old (a ++ b) (c ++ d))
 
@@ -31,4 +31,4 @@ pub five_more :
     (old a b c d e one two three four five : List ℕ) → one ≡ old ++ a → two ≡ one ++ b → three ≡ two ++ c → four ≡ three ++ d → five ≡ four ++ e
     → five ≡ old ++ ((a ++ b) ++ (c ++ (d ++ e)))
 five_more old a b c d e one two three four five first second third fourth fifth =
-    joined old a b c (d ++ e) one two three five first second third (two_more three d e four five fourth fifth)
+    four_more old a b c (d ++ e) one two three five first second third (two_more three d e four five fourth fifth)
