@@ -16,7 +16,7 @@ use Rattle.vip_show.specs.declared.figures.Figures.{Figures}
 use Rattle.vip_show.specs.declared.frames.Frames.{Frames}
 use Rattle.vip_show.specs.Counts.{addresses, Awaits, Counted, place_of, Tells}
 use Rattle.vip_show.specs.Figures.{figures_of, HasRoom, most_number}
-use Rattle.vip_show.specs.Frames.{frame_behind, Framed, IsFew, Meets, most_points}
+use Rattle.vip_show.specs.Frames.{frame_behind, Framed, IsFew, CountsPoint, most_points}
 use Rattle.vip_show.specs.Profile.{Step, cycle_in, cycles_at, cycles_of, first_cycle, last_cycle, opcode_at, steps_of}
 
 -- ---- no point
@@ -130,7 +130,7 @@ counted-none counts none none_is steps opcodes count first last framed next few 
 
 -- of the first one
 pub counted-first : (old new : Counts) (begun : Frames) (view : View) → Counted old [] → length old.opcodes.items ≡ addresses → view.pc < addresses
-    → begun.next ≡ frame_behind view.cycle → Framed begun view.cycle [] → IsFew 0 begun → Meets begun view new.frames
+    → begun.next ≡ frame_behind view.cycle → Framed begun view.cycle [] → IsFew 0 begun → CountsPoint begun view new.frames
     → new.steps.items ≡ old.steps.items → new.opcodes.items ≡ slice_set old.opcodes.items view.pc view.opcode
     → new.count ≡ old.count → new.first ≡ view.cycle → new.last ≡ Some (place_of view) → Counted new (view ∷ [])
 unfolding steps_of
@@ -180,7 +180,7 @@ module _ (old : Counts) (views : List View) (view : View) (place : Place) (c : C
   -- of one more
   pub counted-next : (new : Counts) → length old.steps.items ≡ addresses → length old.opcodes.items ≡ addresses → place.pc < addresses → view.pc < addresses
       → new.steps.items ≡ slice_set old.steps.items place.pc (figures_of (cycles_at views place.pc ++ (view.cycle - place.cycle) ∷ []))
-      → new.opcodes.items ≡ slice_set old.opcodes.items view.pc view.opcode → Meets old.frames view new.frames
+      → new.opcodes.items ≡ slice_set old.opcodes.items view.pc view.opcode → CountsPoint old.frames view new.frames
       → new.count ≡ old.count + 1 → new.first ≡ old.first → new.last ≡ Some (place_of view) → Counted new (views ++ view ∷ [])
   counted-next new steps_size opcodes_size from_within within steps opcodes meets count first last = record {
     steps =

@@ -127,7 +127,7 @@ none-first v fresh none = by_start v.start (sym fresh.last ∙ none)
 -- ---- on its way
 
 -- From a start up to v, with these counts: of the events up to the limit some are met and written.
-pub record Going (shown : Shown) (limit : ℕ) (start v : VipState) (out out' : SinkMeaning) (dispatches pictures : ℕ) : Type 0 where
+pub record EventsShown (shown : Shown) (limit : ℕ) (start v : VipState) (out out' : SinkMeaning) (dispatches pictures : ℕ) : Type 0 where
   pub edition : v.edition ≡ start.edition
   pub begun : v.start ≡ start.start
   pub script : v.board.script ≡ start.board.script
@@ -146,8 +146,8 @@ pub record Going (shown : Shown) (limit : ℕ) (start v : VipState) (out out' : 
 
 module _ (shown : Shown) (limit : ℕ) (start : VipState) (out : SinkMeaning) where
   -- no event was met
-  pub going-first : IsFresh start → Going shown limit start start out out 0 0
-  going-first fresh = record {
+  pub events_shown-first : IsFresh start → EventsShown shown limit start start out out 0 0
+  events_shown-first fresh = record {
     edition = refl;
     begun = refl;
     script = refl;
@@ -164,7 +164,7 @@ module _ (shown : Shown) (limit : ℕ) (start : VipState) (out : SinkMeaning) wh
     ends = ends-first start limit fresh;
   }
 
-  module _ (v v' : VipState) (out' out'' : SinkMeaning) (dispatches pictures : ℕ) (g : Going shown limit start v out out' dispatches pictures) where
+  module _ (v v' : VipState) (out' out'' : SinkMeaning) (dispatches pictures : ℕ) (g : EventsShown shown limit start v out out' dispatches pictures) where
     -- what is left begins with this event: it is the next of all
     next : (event : Event) (rest : List Event) → events_left v limit ≡ event ∷ rest → events_to start limit ≡ (g.done ++ event ∷ []) ++ rest
     next event rest split = g.split ∙ ap (λ left. g.done ++ left) split ∙ sym (append_assoc g.done (event ∷ []) rest)
@@ -196,9 +196,9 @@ module _ (shown : Shown) (limit : ℕ) (start : VipState) (out : SinkMeaning) wh
         (FailsWithin-more (pieces_of shown start limit g.behind ++ piece ∷ []) (pieces_of shown start limit rest) out out''
         (FailsWithin-snoc (pieces_of shown start limit g.behind) piece [] out out' out'' g.puts fault))
 
-    pub going-dispatch : (d : Dispatched limit v v' (events_left v limit)) → PutsAll (piece_here (Dispatch d.b)) out' out''
-        → Going shown limit start v' out out'' (dispatches + 1) pictures
-    going-dispatch d put = record {
+    pub shown-dispatch : (d : Dispatched limit v v' (events_left v limit)) → PutsAll (piece_here (Dispatch d.b)) out' out''
+        → EventsShown shown limit start v' out out'' (dispatches + 1) pictures
+    shown-dispatch d put = record {
       edition = d.meets.one.same.edition ∙ g.edition;
       begun = d.meets.one.same.start ∙ g.begun;
       script = d.meets.one.same.script ∙ g.script;
@@ -220,9 +220,9 @@ module _ (shown : Shown) (limit : ℕ) (start : VipState) (out : SinkMeaning) wh
         last_is : v'.last ≡ last_view start.edition (g.done ++ Dispatch d.b ∷ [])
         last_is = last-told start.edition limit v v' g.edition d ∙ sym (ap (λ p. option_map (view_at start.edition) p) (last-dispatched g.done d.b))
 
-    pub going-picture : (d : Pictured limit v v' (events_left v limit)) → PutsAll (piece_here (Picture d.m)) out' out''
-        → Going shown limit start v' out out'' dispatches (pictures + 1)
-    going-picture d put = record {
+    pub shown-picture : (d : Pictured limit v v' (events_left v limit)) → PutsAll (piece_here (Picture d.m)) out' out''
+        → EventsShown shown limit start v' out out'' dispatches (pictures + 1)
+    shown-picture d put = record {
       edition = d.meets.one.same.edition ∙ g.edition;
       begun = d.meets.one.same.start ∙ g.begun;
       script = d.meets.one.same.script ∙ g.script;
@@ -275,7 +275,7 @@ puts-piece : (piece : Option (List ℕ)) (old new : SinkMeaning) (done : Unit {0
 puts-piece None old new done put = rw put.1 (PutsAll-nil old)
 puts-piece (Some piece) old new done put = PutsAll-one piece old new put
 
-module _ (shown : Shown) (limit : ℕ) (start : VipState) (out : SinkMeaning) (v v' : VipState) (out' : SinkMeaning) (dispatches pictures : ℕ) (g : Going shown limit start v out out' dispatches pictures) where
+module _ (shown : Shown) (limit : ℕ) (start : VipState) (out : SinkMeaning) (v v' : VipState) (out' : SinkMeaning) (dispatches pictures : ℕ) (g : EventsShown shown limit start v out out' dispatches pictures) where
   dispatch_piece : (s : Shown) (d : Dispatched limit v v' (events_left v limit))
       → option_to_list (event_piece s met.Dispatch v') ≡ piece_of s start.edition (interpreter start).rom (run_of start limit) (Dispatch d.b)
   dispatch_piece (Lines columns) d = rw (d.meets.machine, d.meets.one.same.edition, g.edition) refl
@@ -290,15 +290,15 @@ module _ (shown : Shown) (limit : ℕ) (start : VipState) (out : SinkMeaning) (v
 
   module _ (out'' : SinkMeaning) where
     pub puts-dispatch : (d : Dispatched limit v v' (events_left v limit)) (done : Unit {0})
-        → PieceAnswers (event_piece shown met.Dispatch v') out' out'' (Ok done) → Going shown limit start v' out out'' (dispatches + 1) pictures
+        → PieceAnswers (event_piece shown met.Dispatch v') out' out'' (Ok done) → EventsShown shown limit start v' out out'' (dispatches + 1) pictures
     puts-dispatch d done put =
-        going-dispatch shown limit start out v v' out' out'' dispatches pictures g d
+        shown-dispatch shown limit start out v v' out' out'' dispatches pictures g d
         (rw (← dispatch_piece shown d) (puts-piece (event_piece shown met.Dispatch v') out' out'' done put))
 
     pub puts-picture : (d : Pictured limit v v' (events_left v limit)) (done : Unit {0})
-        → PieceAnswers (event_piece shown met.Picture v') out' out'' (Ok done) → Going shown limit start v' out out'' dispatches (pictures + 1)
+        → PieceAnswers (event_piece shown met.Picture v') out' out'' (Ok done) → EventsShown shown limit start v' out out'' dispatches (pictures + 1)
     puts-picture d done put =
-        going-picture shown limit start out v v' out' out'' dispatches pictures g d
+        shown-picture shown limit start out v v' out' out'' dispatches pictures g d
         (rw (← picture_piece_is shown d) (puts-piece (event_piece shown met.Picture v') out' out'' done put))
 
     fails : (event : Event) (rest : List Event) (piece : Option (List ℕ)) (e : Failed) → events_left v limit ≡ event ∷ rest
@@ -332,7 +332,7 @@ run-fails shown limit old new out out' (Err e) bad fault = fault
 
 -- ---- the end at a stop
 
-module _ (shown : Shown) (limit : ℕ) (start : VipState) (out : SinkMeaning) (v v' : VipState) (out' : SinkMeaning) (dispatches pictures : ℕ) (g : Going shown limit start v out out' dispatches pictures) where
+module _ (shown : Shown) (limit : ℕ) (start : VipState) (out : SinkMeaning) (v v' : VipState) (out' : SinkMeaning) (dispatches pictures : ℕ) (g : EventsShown shown limit start v out out' dispatches pictures) where
   pub ran-stop : (stop : StopRecord) (h : Halted limit v v' (events_left v limit) stop) (tally : Tally) → tally.end ≡ run.AtStop stop
       → tally.dispatches ≡ dispatches → tally.pictures ≡ pictures → Ran shown limit start v' out out' tally
   ran-stop stop h tally end ds ps = record {
@@ -385,7 +385,7 @@ piece-put f found x bytes old new r is same put = rw is (subst (λ b. PutAnswers
 
 -- the counts and the events met are few
 pub counts-fit : (shown : Shown) (limit : ℕ) (start v v' : VipState) (out out' : SinkMeaning) (dispatches pictures : ℕ)
-    → Going shown limit start v out out' dispatches pictures → Follows v' → v'.met ≡ v.met + 1
+    → EventsShown shown limit start v out out' dispatches pictures → Follows v' → v'.met ≡ v.met + 1
     → (dispatches ≤ 8_000_000_001) × (pictures ≤ 8_000_000_001)
 counts-fit shown limit start v v' out out' dispatches pictures g follows one =
     let few : v'.met ≤ 8_000_000_002 = few-met v' follows in

@@ -11,7 +11,7 @@ use Rattle.chip8_lang.specs.View.{View}
 use Rattle.vip_show.specs.declared.frames.Frames.{Frames}
 use Rattle.vip_show.specs.declared.figures.Figures.{Figures}
 use Rattle.vip_show.specs.Figures.{figures_of, most_number, HasRoom}
-use Rattle.vip_show.specs.Frames.{frame_behind, Framed, IsFew, Meets}
+use Rattle.vip_show.specs.Frames.{frame_behind, Framed, IsFew, CountsPoint}
 use Rattle.vip_show.specs.Profile.{points_in, whole_frames}
 
 -- ---- frames that are over
@@ -133,7 +133,7 @@ module _ (frames : Frames) (view : View) (here : ℕ) (first : ℕ) (views : Lis
 
 module _ (old passed : Frames) (view : View) (next : passed.next ≡ max old.next (view.cycle / frame))
     (framed : (first : ℕ) (views : List View) → Framed old first views → Framed passed first views) (few : (points : ℕ) → IsFew points old → IsFew points passed) where
-  pub meets-here : passed.next ≡ view.cycle / frame → Meets old view (record { over = passed.over; next = passed.next; here = passed.here + 1 })
+  pub meets-here : passed.next ≡ view.cycle / frame → CountsPoint old view (record { over = passed.over; next = passed.next; here = passed.here + 1 })
   meets-here same = record {
     next = next;
     framed = λ first views f behind.
@@ -148,7 +148,7 @@ module _ (old passed : Frames) (view : View) (next : passed.next ≡ max old.nex
       differ : (k : ℕ) → k < passed.next → view.cycle / frame ≡ k → ⊥
       differ k high is = omega (arith, high, is, same)
 
-  pub meets-before : (passed.next ≡ view.cycle / frame → ⊥) → Meets old view passed
+  pub meets-before : (passed.next ≡ view.cycle / frame → ⊥) → CountsPoint old view passed
   meets-before other = record {
     next = next;
     framed = λ first views f behind.

@@ -1,7 +1,7 @@
 pub mod Lists
 pub mod Screens
 pub mod Endings
-pub mod Going
+pub mod EventsShown
 pub mod Underway
 pub mod Fresh
 pub mod Points

@@ -27,7 +27,7 @@ use Rattle.vip_show.specs.declared.counts.Counts.{Counts}
 use Rattle.vip_show.specs.Counts.{Awaits, Counted, CountsRun}
 use Rattle.vip_show.specs.Profile.{last_cycle, profile_pieces, profile_text, views_of}
 use Rattle.vip_show.proofs.Counting.{last_cycle-more}
-use Rattle.vip_show.proofs.Going.{none-first}
+use Rattle.vip_show.proofs.EventsShown.{none-first}
 use Rattle.vip_show.proofs.Underway.{Underway, Through, under-first, under-dispatch, under-picture, through-end, through-stop}
 
 -- ---- the points among events, with one more

@@ -18,11 +18,11 @@ use Rattle.vip_relation.proofs.Meetings.{last-dispatched, last-kept}
 use Rattle.vip_relation.proofs.Nexts.{Dispatched, Pictured, Halted, Ended}
 use Rattle.vip_show.specs.Answers.{IsFresh}
 use Rattle.vip_show.specs.Endings.{ending_of}
-use Rattle.vip_show.proofs.Going.{none-first}
+use Rattle.vip_show.proofs.EventsShown.{none-first}
 use Rattle.vip_show.proofs.Underway.{Underway, Through, under-first, under-dispatch, under-picture, through-end, through-stop}
 use Rattle.vip_text.specs.declared.ending.RunEnd.{RunEnd}
 use Rattle.vip_text.specs.declared.ending.RunEnd.TheVariants as run
-use Rattle.vip_show.specs.StateOutput.{saved_file, Keeps, SavedAnswers}
+use Rattle.vip_show.specs.StateOutput.{saved_file, KeepsFile, SavedAnswers}
 use Rattle.vip_show.specs.Written.{file_of}
 
 -- ---- on its way
@@ -66,17 +66,17 @@ module _ (limit : ℕ) (start : VipState) where
 
     -- up to its end
     kept-through : (done : List Event) (end : RunEnd) → Through limit start v' done end → bytes ≡ unwrap_or (saved_file start.edition done) []
-        → Keeps start limit v' bytes end
+        → KeepsFile start limit v' bytes end
     kept-through done end t is = record {
       last = t.last ∙ ap (last_view start.edition) (sym t.all);
       bytes_are = is ∙ ap (λ events. unwrap_or (saved_file start.edition events) []) (sym t.all);
       ending = t.ending;
     }
 
-    pub kept-end : (e : Ended limit v v' (events_left v limit)) → Keeps start limit v' bytes run.AtLimit
+    pub kept-end : (e : Ended limit v v' (events_left v limit)) → KeepsFile start limit v' bytes run.AtLimit
     kept-end e = kept-through g.done run.AtLimit (through-end limit start v v' g.done g.under e) g.bytes_are
 
-    pub kept-stop : (stop : StopRecord) (h : Halted limit v v' (events_left v limit) stop) → Keeps start limit v' bytes (run.AtStop stop)
+    pub kept-stop : (stop : StopRecord) (h : Halted limit v v' (events_left v limit) stop) → KeepsFile start limit v' bytes (run.AtStop stop)
     kept-stop stop h =
         kept-through (g.done ++ Stopped h.b ∷ []) (run.AtStop stop) (through-stop limit start v v' g.done g.under stop h)
         (g.bytes_are ∙ sym (file-with start.edition (g.done ++ Stopped h.b ∷ []) (last_dispatch g.done) (last-kept g.done (Stopped h.b) refl)))
@@ -102,7 +102,7 @@ first-none v fresh none bytes empty =
 
 -- ---- what goes out
 
-module _ (limit : ℕ) (old new : VipState) (bytes : List ℕ) (end : RunEnd) (k : Keeps old limit new bytes end) where
+module _ (limit : ℕ) (old new : VipState) (bytes : List ℕ) (end : RunEnd) (k : KeepsFile old limit new bytes end) where
   abbrev events : List Event
   events = events_to old limit
 

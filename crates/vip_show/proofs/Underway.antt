@@ -13,7 +13,7 @@ use Rattle.vip_relation.proofs.Meetings.{last-dispatched, last-kept}
 use Rattle.vip_relation.proofs.Nexts.{Dispatched, Pictured, Halted, Ended}
 use Rattle.vip_show.specs.Answers.{IsFresh}
 use Rattle.vip_show.specs.Endings.{ending_after, ending_of}
-use Rattle.vip_show.proofs.Going.{ends-first, first-view, split-first}
+use Rattle.vip_show.proofs.EventsShown.{ends-first, first-view, split-first}
 use Rattle.vip_show.proofs.Endings.{last-told, ends-dispatch, ends-picture}
 use Rattle.vip_show.proofs.Lists.{stop-last}
 use Rattle.vip_text.specs.Endings.{ending_in}

@@ -29,7 +29,7 @@ pub record IsFew (points : ℕ) (frames : Frames) : Type 0 where
   pub next : frames.next ≤ most_number
 
 -- a point is met, which doesn't lie before the others
-pub record Meets (old : Frames) (view : View) (new : Frames) : Type 0 where
+pub record CountsPoint (old : Frames) (view : View) (new : Frames) : Type 0 where
   pub next : new.next ≡ max old.next (view.cycle / frame)
   pub framed : (first : ℕ) (views : List View) → Framed old first views → old.next ≤ max (frame_behind first) (view.cycle / frame)
       → Framed new first (views ++ view ∷ [])

@@ -1,5 +1,5 @@
 -- What is written of a run, piece by piece.
-use Rattle.std.specs.Prelude.{ℕ, ◌+◌, List, [], ◌∷◌, ◌++◌, Bool, true, false, if◌then◌else◌, Option, Some, None, length, filter}
+use Rattle.std.specs.Prelude.{ℕ, ◌+◌, List, [], ◌∷◌, Bool, true, false, Option, Some, None, length, filter}
 use Rattle.std.specs.List.{flat_map, range_with_len}
 use Rattle.machine.specs.Board.{Machine}
 use Rattle.machine.specs.Pictures.{picture_of}
@@ -11,10 +11,8 @@ use Rattle.chip8_lang.specs.Places.{state_of}
 use Rattle.chip8_lang.specs.Screen.{Pixels}
 use Rattle.chip8_lang.specs.View.{view_at}
 use Rattle.vip_text.specs.Screens.{screen_lines, picture_file}
-use Rattle.vip_text.specs.Summaries.{summary_line}
 use Rattle.vip_text.specs.Traces.{trace_line}
 use Rattle.vip_text.specs.declared.trace.TraceColumns.{TraceColumns}
-use Rattle.vip_relation.specs.Follows.{last_dispatch}
 
 -- ---- a trace: a line for the state read off at each dispatch point
 
@@ -32,10 +30,6 @@ screen_at e b = screen_lines (state_of e b).screen (rows_of e)
 abbrev pub screen_piece : Edition → Option Machine → List (List ℕ)
 screen_piece e None = []
 screen_piece e (Some b) = screen_at e b ∷ []
-
-abbrev pub trace_pieces : Edition → TraceColumns → Bool → List Event → List (List ℕ)
-trace_pieces e columns with_screen events =
-    trace_lines e columns events ++ (if with_screen then screen_piece e (last_dispatch events) else [])
 
 -- ---- the pictures, each a file of its own
 
@@ -71,7 +65,3 @@ lit_in_rows pixels (y ∷ ys) = lit_in_row pixels y + lit_in_rows pixels ys
 abbrev pub lit_at : Edition → Option Machine → ℕ
 lit_at e None = 0
 lit_at e (Some b) = lit_in_rows (state_of e b).screen (range_with_len 0 (rows_of e))
-
-abbrev pub summary : Edition → ℕ → List Event → List ℕ
-summary e number events =
-    summary_line number (count_of is_dispatch_event events) (count_of is_picture_event events) (lit_at e (last_dispatch events))

@@ -18,7 +18,7 @@ abbrev pub saved_file : Edition → List Event → Option (List ℕ)
 saved_file e events = option_map (file_of e) (last_dispatch events)
 
 -- a run up to its end: the last dispatch point is told, and these bytes are its file, or none where there is no such point
-pub record Keeps (old : VipState) (limit : ℕ) (new : VipState) (bytes : List ℕ) (end : RunEnd) : Type 0 where
+pub record KeepsFile (old : VipState) (limit : ℕ) (new : VipState) (bytes : List ℕ) (end : RunEnd) : Type 0 where
   pub last : new.last ≡ last_view old.edition (events_to old limit)
   pub bytes_are : bytes ≡ unwrap_or (saved_file old.edition (events_to old limit)) []
   pub ending : ending_in end ≡ ending_of old.edition (events_to old limit)

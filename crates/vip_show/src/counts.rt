@@ -39,7 +39,7 @@ impl Counts {
     ghost use Rattle.vip_byte.specs.Number.{most_cycles};
     ghost use Rattle.vip_show.specs.Counts.{addresses, Awaits, Counted, place_of};
     ghost use Rattle.vip_show.specs.Figures.{figures_of, HasRoom, most_number};
-    ghost use Rattle.vip_show.specs.Frames.{IsFew, Meets, most_points};
+    ghost use Rattle.vip_show.specs.Frames.{IsFew, CountsPoint, most_points};
     ghost use Rattle.vip_show.specs.declared.figures.Figures.{Figures};
     ghost use Rattle.vip_show.specs.Profile.{last_cycle};
 
@@ -125,7 +125,7 @@ impl Counts {
         ensures opcodes { self.new.opcodes.items ≡ slice_set self.old.opcodes.items view.now.pc view.now.opcode }
         ensures within { view.now.pc < addresses }
         ensures last { self.new.last ≡ Some (place_of (seen view.now)) }
-        ensures frames { Meets self.old.frames (seen view.now) self.new.frames }
+        ensures frames { CountsPoint self.old.frames (seen view.now) self.new.frames }
         ensures steps { self.new.steps.items ≡ self.old.steps.items }
         ensures count { self.new.count ≡ self.old.count }
         ensures first { self.new.first ≡ self.old.first }

@@ -4,7 +4,7 @@ ghost use Rattle.std.specs.Prelude.{◌≡◌, ◌+◌, ◌/◌, ◌∷◌, [], 
 ghost use Rattle.machine.specs.Pictures.{frame};
 ghost use Rattle.chip8_lang.specs.View.{View};
 ghost use Rattle.vip_show.specs.Figures.{figures_of, most_number};
-ghost use Rattle.vip_show.specs.Frames.{frame_behind, Framed, IsFew, Meets, most_points};
+ghost use Rattle.vip_show.specs.Frames.{frame_behind, Framed, IsFew, CountsPoint, most_points};
 ghost use Rattle.vip_show.specs.Profile.{points_in, whole_frames};
 
 use crate::figures::Figures;
@@ -53,7 +53,7 @@ impl Frames {
     pub(crate) fn meet(&mut self, cycle: u64)
         requires cycle { cycle ≤ most_number }
         requires few { IsFew most_points self.old }
-        ensures { (view : View) → view.cycle ≡ cycle → Meets self.old view self.new }
+        ensures { (view : View) → view.cycle ≡ cycle → CountsPoint self.old view self.new }
     {
         let frame = cycle / FRAME_CYCLES;
         self.pass(frame);

@@ -4,7 +4,7 @@ ghost use Rattle.std.specs.Prelude.{◌≡◌, ◌≤◌, [], unwrap_or};
 ghost use Rattle.vip_relation.specs.State.{events_to, first_events};
 ghost use Rattle.vip_show.specs.Answers.{IsFresh};
 ghost use Rattle.vip_show.specs.Endings.{ending_of};
-ghost use Rattle.vip_show.specs.StateOutput.{Keeps, SavedAnswers, saved_file};
+ghost use Rattle.vip_show.specs.StateOutput.{KeepsFile, SavedAnswers, saved_file};
 
 use crate::writing::write_run;
 use vip_byte::{Buffer, MOST_CYCLE};
@@ -29,7 +29,7 @@ fn keep_last(run: &mut Run, limit: u64, file: &mut Buffer) -> RunEnd
     requires fresh { IsFresh run.old }
     requires limit { limit ≤ MOST_CYCLE }
     requires empty { file.old.items ≡ [] }
-    ensures { Keeps run.old limit run.new file.new.items result }
+    ensures { KeepsFile run.old limit run.new file.new.items result }
 {
     keep_first(run, file);
     loop {

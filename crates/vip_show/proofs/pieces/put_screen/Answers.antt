@@ -2,7 +2,7 @@ use Rattle.std.proofs.Common.{◌∙◌}
 use Rattle.chip8_lang.specs.Editions.{rows_of}
 use Rattle.vip_text.specs.Screens.{screen_lines}
 use Rattle.vip_show.specs.Run.{pixels_told}
-use Rattle.vip_show.proofs.Going.{piece-put}
+use Rattle.vip_show.proofs.EventsShown.{piece-put}
 use Rattle.vip_show.proofs.Screens.{some-viewed}
 use Rattle.vip_relation.proofs.Sizes.{whole, few, screen-told}
 use Rattle.vip_show.proofs.pieces.put_screen.Goals as goal

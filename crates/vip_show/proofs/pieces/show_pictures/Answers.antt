@@ -1,4 +1,4 @@
-use Rattle.vip_show.proofs.Going.{show-fails, pictures-are}
+use Rattle.vip_show.proofs.EventsShown.{show-fails, pictures-are}
 use Rattle.vip_show.proofs.pieces.show_pictures.Goals as goal
 
 pub returns-in_err-put_events : goal.returns-in_err-put_events

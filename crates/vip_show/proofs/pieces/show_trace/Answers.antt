@@ -1,4 +1,4 @@
-use Rattle.vip_show.proofs.Going.{show-fails, traced-early, traced-fails, traced-whole, traced-lines}
+use Rattle.vip_show.proofs.EventsShown.{show-fails, traced-early, traced-fails, traced-whole, traced-lines}
 use Rattle.vip_show.proofs.pieces.show_trace.Goals as goal
 
 pub returns-in_err-tally : goal.returns-in_err-tally

@@ -2,7 +2,7 @@ use Rattle.std.proofs.Common.{ap, ◌∙◌, sym}
 use Rattle.vip_board.specs.Seen.{Seen}
 use Rattle.vip_video.specs.Chip.{Chip}
 use Rattle.vip_text.specs.Screens.{picture_file}
-use Rattle.vip_show.proofs.Going.{piece-put}
+use Rattle.vip_show.proofs.EventsShown.{piece-put}
 use Rattle.vip_show.proofs.run.put_picture.Goals as goal
 
 pub returns : goal.returns

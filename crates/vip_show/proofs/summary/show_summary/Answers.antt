@@ -1,4 +1,4 @@
-use Rattle.vip_show.proofs.Going.{show-fails, summed-early, summed-fails, summed-whole, line-put, puts-line, fails-line}
+use Rattle.vip_show.proofs.EventsShown.{show-fails, summed-early, summed-fails, summed-whole, line-put, puts-line, fails-line}
 use Rattle.vip_show.proofs.summary.show_summary.Goals as goal
 
 pub returns-in_err-tally : goal.returns-in_err-tally

@@ -1,7 +1,7 @@
 use Rattle.std.proofs.Common.{arith, ap, sym, subst, ◌∙◌}
 use Rattle.std.specs.Prelude.{slice_set}
 use Rattle.chip8_lang.specs.View.{seen}
-use Rattle.vip_show.specs.Frames.{Meets}
+use Rattle.vip_show.specs.Frames.{CountsPoint}
 use Rattle.vip_show.specs.Profile.{cycles_at}
 use Rattle.vip_show.proofs.Counting.{awaits-few, awaits-order, counted-next, placed, row-room}
 use Rattle.vip_show.proofs.counts.Counts.meet_next.Goals as goal
@@ -23,7 +23,7 @@ returns c views counted behind =
     (c.arrive.ensures.steps
     ∙ c.count_step.ensures.steps (cycles_at views c.args.last.pc) (λ other. counted.steps c.args.last.pc other (omega arith)))
     (c.arrive.ensures.opcodes ∙ ap (λ items. slice_set items c.args.view.now.pc c.args.view.now.opcode) c.count_step.ensures.opcodes)
-    (subst (λ frames. Meets frames (seen c.args.view.now) c.arrive.new.self.frames) c.count_step.ensures.frames c.arrive.ensures.frames)
+    (subst (λ frames. CountsPoint frames (seen c.args.view.now) c.arrive.new.self.frames) c.count_step.ensures.frames c.arrive.ensures.frames)
     (c.arrive.ensures.count ∙ c.count_step.ensures.count)
     (c.arrive.ensures.first ∙ c.count_step.ensures.first)
     c.arrive.ensures.last
