@@ -1,5 +1,5 @@
 -- The order of points, and what is found by halving among claims in order.
-use Rattle.std.proofs.Common.{◌≡◌, ℕ, ◌+◌, ◌-◌, ◌<◌, ◌≤◌, true, false, ◌&&◌, leb, ltb, List, [], ◌∷◌, ◌++◌, length, get_or, Option, Some, None, Ok, refl, sym, ap, ◌∙◌, arith, inl, inr}
+use Rattle.std.proofs.Common.{◌≡◌, ℕ, ◌+◌, ◌-◌, ◌<◌, ◌≤◌, true, false, ◌&&◌, ◌||◌, eqb, leb, ltb, List, [], ◌∷◌, ◌++◌, length, get_or, Option, Some, None, Ok, refl, sym, ap, ◌∙◌, arith, inl, inr}
 use Rattle.std.specs.Cmp.{IsTotalOrder}
 use Rattle.std.specs.Cmp.Lexicographic.{slice_cmp}
 use Rattle.std.specs.FinMap.{nat_cmp-IsAntisymmetric, slice_cmp-IsAntisymmetric}
@@ -9,7 +9,7 @@ use Rattle.std.specs.Option.{option_to_list}
 use Rattle.std.specs.declared.cmp.Ordering.{Ordering}
 use Rattle.std.specs.declared.cmp.Ordering.TheVariants.{Less, Equal, Greater}
 use Rattle.std.specs.Ordering.{is_eq, is_lt, nat_cmp, ordering_index, ordering_reverse, ordering_then}
-use Rattle.std.proofs.lemmas.Bool.{and_right, cases_Bool, cases_lt, cases_order, le-leb, le-ltb, leb-true, ne_eqb}
+use Rattle.std.proofs.lemmas.Bool.{and_right, cases_Bool, cases_lt, cases_order, le-leb, le-ltb, leb-true, lt-leb, lt-ltb, ne_eqb}
 use Rattle.std.proofs.lemmas.Cmp.{nat_cmp_total, nat_list_cmp_total, on_total, then_total, alike_right}
 use Rattle.std.proofs.lemmas.List.{append-nil, length-append}
 use Rattle.std.proofs.lemmas.List.Elements.{All-from_get_or}
@@ -20,7 +20,7 @@ use Rattle.std.proofs.lemmas.List.Sums.{list_all-from_AllPass}
 use Rattle.std.proofs.lemmas.Option.{slice_get-get_or}
 use Rattle.game_check.specs.declared.claim.Point.{Point}
 use Rattle.game_check.specs.declared.claim.Claim.{Claim}
-use Rattle.game_check.specs.Closed.{allows, has_range, is_apart, is_claimed}
+use Rattle.game_check.specs.Closed.{allows, has_range, has_start, is_apart, is_claimed, is_start, point}
 use Rattle.game_check.specs.Grammar.{order, cause_after, is_behind}
 use Rattle.game_check.specs.Order.{IsAscending}
 
@@ -152,6 +152,48 @@ module _ (claims : List Claim) (up : IsAscending claims) (low high : ℕ) (p : P
     | inl earlier ↦ rw (cut.0 k d (omega arith) earlier) refl
     | inr later ↦ rw (cut.1 k d later within) refl
   ])))
+
+-- ---- the claim of the start
+
+not_equal : (o : Ordering) → is_eq (ordering_then o Greater) ≡ false
+not_equal Less = refl
+not_equal Equal = refl
+not_equal Greater = refl
+
+low_is : (low high : ℕ) → (leb low 0 && leb 0 high) ≡ eqb low 0
+low_is low high = elim (cases_lt 0 low) [
+  | inl some ↦ rw (lt-leb low 0 some, ne_eqb low 0 (λ same. omega (arith, same, some))) refl
+  | inr none ↦ let same : low ≡ 0 = omega (arith, none) in rw same (le-leb 0 high (omega arith))
+]
+
+above_none : (n : ℕ) → 0 < n → nat_cmp n 0 ≡ Greater
+above_none n some = rw (le-ltb n 0 (omega (arith, some)), ne_eqb n 0 (λ same. omega (arith, same, some))) refl
+
+start_is : (pc low high : ℕ) (items : List ℕ)
+    → (is_eq (order (point pc items) (point 0x200 [])) && (leb low 0 && leb 0 high)) ≡ (eqb pc 0x200 && (eqb (length items) 0 && eqb low 0))
+start_is pc low high [] = elim (cases_order pc 0x200) [
+  | inl same ↦ rw same (low_is low high)
+  | inr apart ↦ elim apart [
+    | inl below ↦ rw (lt-ltb pc 0x200 below, ne_eqb pc 0x200 (λ same. omega (arith, same, below))) refl
+    | inr above ↦ rw (le-ltb pc 0x200 (omega (arith, above)), ne_eqb pc 0x200 (λ same. omega (arith, same, above))) refl
+  ]
+]
+start_is pc low high (x ∷ items) =
+    ap (λ o. is_eq (ordering_then (nat_cmp pc 0x200) (ordering_then o (slice_cmp nat_cmp (x ∷ items) []))) && (leb low 0 && leb 0 high))
+    (above_none (length (x ∷ items)) (omega arith))
+    ∙ ap (λ b. b && (leb low 0 && leb 0 high)) (not_equal (nat_cmp pc 0x200))
+    ∙ sym (and_right (eqb pc 0x200) _ (ap (λ b. b && eqb low 0) (ne_eqb (length (x ∷ items)) 0 (λ same. omega (arith, same)))))
+
+starts-any : (claims : List Claim) → list_any (allows 0 0 (point 0x200 [])) claims ≡ list_any is_start claims
+starts-any [] = refl
+starts-any (c ∷ claims) =
+    ap (λ b. b || list_any (allows 0 0 (point 0x200 [])) claims) (start_is c.point.pc c.low c.high c.point.stack.items)
+    ∙ ap (λ b. is_start c || b) (starts-any claims)
+
+-- some claim is of the start where the start is claimed with an I of 0
+pub start_claimed : (claims : List Claim) (stack : List ℕ) → stack ≡ [] → is_claimed claims 0 0 (point 0x200 stack) ≡ has_start claims
+unfolding has_start
+start_claimed claims stack empty = rw empty (starts-any claims)
 
 -- ---- the code
 

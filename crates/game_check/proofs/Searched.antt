@@ -14,8 +14,8 @@ use Rattle.chip8_lang.specs.declared.instr.Instr.{Instr}
 use Rattle.chip8_lang.specs.State.{is_in_memory}
 use Rattle.game_check.specs.Closed.{high_after, instr_in, is_allowed, low_after, next_points, point}
 use Rattle.game_check.specs.Grammar.{is_behind, order}
-use Rattle.game_check.specs.Obstacles.{HasPoint, Meets, claim_of}
-use Rattle.game_check.specs.Obstacles.Meets.{Goes, Grows}
+use Rattle.game_check.specs.Obstacles.{HasPoint, MayBeMet, claim_of}
+use Rattle.game_check.specs.Obstacles.MayBeMet.{Goes, Grows}
 use Rattle.game_check.specs.Searching.{Grown, HasNode}
 use Rattle.game_check.proofs.Ordered.{ascending_more, same_point}
 use Rattle.game_check.specs.Order.{IsAscending}
@@ -31,22 +31,22 @@ point_is p q same =
 
 module _ (e : Edition) (game : List ℕ) where
   abbrev pub MetNode : Node → Type 0
-  MetNode n = Meets e game n.claim
+  MetNode n = MayBeMet e game n.claim
 
   grown_met :
-      (p : Point) (low high : ℕ) (old new : Claim) → old.point ≡ p → Meets e game old → Meets e game (claim_of p low high) → Grown e old low high new
-      → Meets e game new
+      (p : Point) (low high : ℕ) (old new : Claim) → old.point ≡ p → MayBeMet e game old → MayBeMet e game (claim_of p low high) → Grown e old low high new
+      → MayBeMet e game new
   grown_met p low high old new here had met grown =
-      let there : Meets e game (claim_of p old.low old.high) = subst (λ q. Meets e game (claim_of q old.low old.high)) here had in
-      let whole : Meets e game (claim_of p new.low new.high) = Grows p low high old.low old.high new.low new.high met there grown.low_end grown.high_end in
-      subst (λ q. Meets e game (claim_of q new.low new.high)) (sym (grown.point ∙ here)) whole
+      let there : MayBeMet e game (claim_of p old.low old.high) = subst (λ q. MayBeMet e game (claim_of q old.low old.high)) here had in
+      let whole : MayBeMet e game (claim_of p new.low new.high) = Grows p low high old.low old.high new.low new.high met there grown.low_end grown.high_end in
+      subst (λ q. MayBeMet e game (claim_of q new.low new.high)) (sym (grown.point ∙ here)) whole
 
-  pub joined :
+  pub join_met :
       (nodes : List Node) (place : ℕ) (p : Point) (low high : ℕ) (node node' : Node) → All MetNode nodes → HasNode nodes place p
-      → node ≡ get_or nodes place node → Meets e game (claim_of p low high) → Grown e node.claim low high node'.claim → All MetNode (slice_set nodes place node')
-  joined nodes place p low high node node' had there is met grown =
+      → node ≡ get_or nodes place node → MayBeMet e game (claim_of p low high) → Grown e node.claim low high node'.claim → All MetNode (slice_set nodes place node')
+  join_met nodes place p low high node node' had there is met grown =
       let here : node.claim.point ≡ p = point_is node.claim.point p (subst (λ n. is_eq (order n.claim.point p) ≡ true) (sym is) (there.same node)) in
-      let met_there : Meets e game node.claim = subst MetNode (sym is) (All-get_or MetNode nodes place node there.there had) in
+      let met_there : MayBeMet e game node.claim = subst MetNode (sym is) (All-get_or MetNode nodes place node there.there had) in
       All-set MetNode nodes place node' (grown_met p low high node.claim node'.claim here met_there met grown) had
 
 -- ---- claims in order
@@ -76,10 +76,10 @@ kept_all P claims new claim is all this = elim (cases_Bool (is_behind claims cla
 
 -- ---- what comes next
 
-module _ (e : Edition) (game : List ℕ) (c : Claim) (met : Meets e game c) (inside : is_in_memory e c.point.pc 2 ≡ true) (i : Instr)
+module _ (e : Edition) (game : List ℕ) (c : Claim) (met : MayBeMet e game c) (inside : is_in_memory e c.point.pc 2 ≡ true) (i : Instr)
     (instr : i ≡ instr_in game c.point.pc) (allowed : is_allowed i c.point.stack.items ≡ true) (low high : ℕ) (low_is : low ≡ low_after i c)
     (high_is : high ≡ high_after i c) (fits : high ≤ 0xffff) where
-  goes : (p : Point) → HasPoint p (next_points i c.point) → Meets e game (claim_of p low high)
+  goes : (p : Point) → HasPoint p (next_points i c.point) → MayBeMet e game (claim_of p low high)
   goes p there =
       let at : HasPoint p (next_points (instr_in game c.point.pc) c.point) = subst (λ j. HasPoint p (next_points j c.point)) instr there in
       let fine : is_allowed (instr_in game c.point.pc) c.point.stack.items ≡ true = subst (λ j. is_allowed j c.point.stack.items ≡ true) instr allowed in
@@ -87,8 +87,8 @@ module _ (e : Edition) (game : List ℕ) (c : Claim) (met : Meets e game c) (ins
       let high_there : high ≡ high_after (instr_in game c.point.pc) c = high_is ∙ ap (λ j. high_after j c) instr in
       rw (low_there, high_there) (Goes c p met inside fine at (rw high_there at fits))
 
-  pub first_met : (p : Point) (q : Option Point) → next_points i c.point ≡ p ∷ option_to_list q → Meets e game (claim_of p low high)
+  pub first_met : (p : Point) (q : Option Point) → next_points i c.point ≡ p ∷ option_to_list q → MayBeMet e game (claim_of p low high)
   first_met p q points = goes p (rw points (inl refl))
 
-  pub second_met : (p q : Point) → next_points i c.point ≡ p ∷ option_to_list (Some q) → Meets e game (claim_of q low high)
+  pub second_met : (p q : Point) → next_points i c.point ≡ p ∷ option_to_list (Some q) → MayBeMet e game (claim_of q low high)
   second_met p q points = goes q (rw points (inr (inl refl)))

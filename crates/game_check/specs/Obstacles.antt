@@ -33,14 +33,14 @@ IsHighEnd e greatest high =
 
 -- From the start on: where an instruction of the game in game memory doesn't stop for its opcode nor for the stack, its next points are met with the
 -- ranges that it leaves; and ranges that are met at one point are joined, and may grow to bounds.
-pub data Meets (e : Edition) (game : List ℕ) : Claim → Type 0 where
-  Starts : Meets e game (claim_of (point memory_start []) 0 0)
-  Goes : (c : Claim) (p : Point) → Meets e game c → is_in_memory e c.point.pc 2 ≡ true
+pub data MayBeMet (e : Edition) (game : List ℕ) : Claim → Type 0 where
+  Starts : MayBeMet e game (claim_of (point memory_start []) 0 0)
+  Goes : (c : Claim) (p : Point) → MayBeMet e game c → is_in_memory e c.point.pc 2 ≡ true
       → is_allowed (instr_in game c.point.pc) c.point.stack.items ≡ true
       → HasPoint p (next_points (instr_in game c.point.pc) c.point) → high_after (instr_in game c.point.pc) c ≤ 0xffff
-      → Meets e game (claim_of p (low_after (instr_in game c.point.pc) c) (high_after (instr_in game c.point.pc) c))
-  Grows : (p : Point) (low high low' high' first last : ℕ) → Meets e game (claim_of p low high) → Meets e game (claim_of p low' high')
-      → IsLowEnd (min low low') first → IsHighEnd e (max high high') last → Meets e game (claim_of p first last)
+      → MayBeMet e game (claim_of p (low_after (instr_in game c.point.pc) c) (high_after (instr_in game c.point.pc) c))
+  Grows : (p : Point) (low high low' high' first last : ℕ) → MayBeMet e game (claim_of p low high) → MayBeMet e game (claim_of p low' high')
+      → IsLowEnd (min low low') first → IsHighEnd e (max high high') last → MayBeMet e game (claim_of p first last)
 
 -- ---- why a search ends
 
@@ -62,11 +62,11 @@ IsFull claims = (65_536 ≤ length claims) ⊎ (1_048_576 < sum_by line_bytes cl
 -- Where a search ended without a certificate. Its claim is one that is met, with the game's opcode, and has its cause among the first ones of some that are
 -- met, in order. Only where I may pass FFFF, or a limit is reached, the cause is that a next point isn't claimed.
 pub record IsObstacle (e : Edition) (game : List ℕ) (o : Obstacle) : Type 0 where
-  pub met : Meets e game o.claim
+  pub met : MayBeMet e game o.claim
   pub opcode : o.opcode ≡ opcode_at e game o.claim.point.pc
   pub found : List Claim
   pub in_order : IsAscending found
-  pub all_met : All (Meets e game) found
+  pub all_met : All (MayBeMet e game) found
   pub count : ℕ
   pub cause : cause_in e game (take count found) o.claim ≡ Some o.cause
   pub limit : o.cause ≡ Next → (0xffff < high_after (instr_in game o.claim.point.pc) o.claim) ⊎ IsFull found

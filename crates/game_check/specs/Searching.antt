@@ -8,14 +8,14 @@ use Rattle.std.specs.Ordering.{is_eq}
 use Rattle.game_check.specs.declared.claim.Claim.{Claim}
 use Rattle.game_check.specs.declared.claim.Point.{Point}
 use Rattle.game_check.specs.Grammar.{order}
-use Rattle.game_check.specs.Obstacles.{IsHighEnd, IsLowEnd, Meets}
+use Rattle.game_check.specs.Obstacles.{IsHighEnd, IsLowEnd, MayBeMet}
 
 -- the claim of each node is one that is met
 abbrev pub AllMet : Search → Type 0
-AllMet s = All (λ n. Meets s.edition s.game.now n.claim) s.nodes.items
+AllMet s = All (λ n. MayBeMet s.edition s.game.now n.claim) s.nodes.items
 
 -- the game stays, and claims that are met
-pub record Keeps (old new : Search) : Type 0 where
+pub record StaysMet (old new : Search) : Type 0 where
   pub edition : new.edition ≡ old.edition
   pub game : new.game.now ≡ old.game.now
   pub met : AllMet new

@@ -11,8 +11,8 @@ ghost use Rattle.game_check.specs.Order.{IsAscending};
 ghost use Rattle.game_check.specs.Proof.{closed_format, proof_of, refusal};
 ghost use Rattle.game_check.specs.States.{IsCertified, NeverStops};
 
-use crate::claim::Claim;
-use crate::closed::check_claim;
+use crate::claim::{Claim, Point, stack_of};
+use crate::closed::{check_claim, is_claimed};
 use crate::fault::{ProofCause, ProofFault};
 use crate::line::read_line;
 use crate::read::read_claims;
@@ -80,13 +80,15 @@ fn check_claims(
 }
 
 // Whether some claim is of a game's first state.
-#[tactic(auto, unfolding(crate::specs::Closed::has_start))]
 fn has_start(claims: &[Claim]) -> bool
+    requires { IsAscending claims.now }
     ensures { result ≡ has_start claims.now }
 {
-    claims.iter().any(|claim| claim.point.pc == 0x0200
-        && claim.point.stack.is_empty()
-        && claim.low == 0)
+    let start = Point {
+        pc: 0x0200,
+        stack: stack_of(&[]),
+    };
+    is_claimed(claims, 0, 0, &start)
 }
 
 // Whether the claims of a certificate are closed, or its first line whose claim isn't.

@@ -181,7 +181,11 @@ fn goes_on(claims: &[Claim], instr: &Instr, claim: &Claim) -> bool
     let low = low_after(instr, claim);
     let high = high_after(instr, claim);
     let (first, second) = next_points(instr, &claim.point);
-    is_claimed(claims, low, high, &first) && is_claimed_too(claims, low, high, second)
+    let first = is_claimed(claims, low, high, &first);
+    match second {
+        Some(second) => first && is_claimed(claims, low, high, &second),
+        None => first,
+    }
 }
 
 // The least I afterwards.
@@ -265,19 +269,8 @@ fn return_point(stack: &[u16]) -> Point
     at(last[0], rest)
 }
 
-// Whether a second point is claimed, where there is one.
-fn is_claimed_too(claims: &[Claim], low: u32, high: u32, point: Option<Point>) -> bool
-    requires { IsAscending claims.now }
-    ensures { result ≡ list_all (closed.is_claimed claims.now low high) (option_to_list point) }
-{
-    match point {
-        Some(point) => is_claimed(claims, low, high, &point),
-        None => true,
-    }
-}
-
-// Whether some claim is of the point and allows all I from low to high. At most one is of it.
-fn is_claimed(claims: &[Claim], low: u32, high: u32, point: &Point) -> bool
+/// Whether some claim is of the point and allows all I from low to high. At most one is of it.
+pub fn is_claimed(claims: &[Claim], low: u32, high: u32, point: &Point) -> bool
     requires { IsAscending claims.now }
     ensures { result ≡ closed.is_claimed claims.now low high point.now }
 {

@@ -5,11 +5,11 @@ ghost use Rattle.game_check.specs.FaultNames.{proof_cause_name};
 
 use crate::claim::Claim;
 use std::alloc::AllocError;
-use thiserror::Error;
+use std::error::Error;
+use std::fmt;
 
 /// Why a line of a certificate is refused. The first two are looked for in all lines before the third is, and the third before the others.
-#[derive(Clone, Copy, Debug, Error)]
-#[error("{}", self.name())]
+#[derive(Clone, Copy, Debug)]
 pub enum ProofCause {
     /// The line has fewer than three or more than fifteen words, some word is not four hexadecimal digits, or the least I is above the
     /// greatest.
@@ -46,8 +46,17 @@ impl ProofCause {
     }
 }
 
+// By hand, since a derive writes and has proved an arm for each variant.
+impl fmt::Display for ProofCause {
+    fn fmt<W: fmt::Write>(&self, f: &mut fmt::Formatter<W>) -> fmt::Result {
+        f.write_str(self.name())
+    }
+}
+
+impl Error for ProofCause {}
+
 /// Why a certificate was not accepted.
-#[derive(Clone, Copy, Debug, Error)]
+#[derive(Clone, Copy, Debug, thiserror::Error)]
 pub enum ProofFault {
     /// The first faulty line, counted from 1, and the first cause in it.
     #[error("line {line}: {cause}")]

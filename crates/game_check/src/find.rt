@@ -3,7 +3,7 @@
 ghost use Rattle.std.specs.Prelude.{◌≤◌, length, IfOk, IfErr};
 ghost use Rattle.std.specs.List.{All};
 ghost use Rattle.chip8_lang.specs.State.{memory_size};
-ghost use Rattle.game_check.specs.Obstacles.{IsFindFault, Meets};
+ghost use Rattle.game_check.specs.Obstacles.{IsFindFault, MayBeMet};
 ghost use Rattle.game_check.specs.Order.{IsAscending};
 ghost use Rattle.game_check.specs.Proof.{IsAccepted};
 
@@ -46,7 +46,7 @@ pub fn find_certificate(alloc: Global, edition: Edition, game: &[u8]) -> Result<
 // refused. That one of them isn't closed then follows from no clause, so that where each of them is, the answer is want of memory.
 fn first_open(edition: Edition, game: &[u8], found: &[Claim], count: usize) -> FindFault
     requires in_order { IsAscending found.now }
-    requires met { All (Meets edition game.now) found.now }
+    requires met { All (MayBeMet edition game.now) found.now }
     ensures { IsFindFault edition game.now result }
 {
     let first = &found[..count.min(found.len())];

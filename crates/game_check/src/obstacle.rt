@@ -3,7 +3,7 @@
 ghost use Rattle.std.specs.Prelude.{◌≡◌, ◌+◌, ◌≤◌, ◌<◌, ◌⊎◌, true, length, take, Some};
 ghost use Rattle.std.specs.List.{All, sum_by};
 ghost use Rattle.game_check.specs.Closed as closed;
-ghost use Rattle.game_check.specs.Obstacles.{line_bytes, opcode_at, range_size, IsFindFault, IsFull, Meets};
+ghost use Rattle.game_check.specs.Obstacles.{line_bytes, opcode_at, range_size, IsFindFault, IsFull, MayBeMet};
 ghost use Rattle.game_check.specs.Order.{IsAscending};
 
 use crate::claim::Claim;
@@ -31,8 +31,8 @@ pub fn fault_at(
     claim: Claim,
 ) -> FindFault
     requires in_order { IsAscending found.now }
-    requires all_met { All (Meets edition game.now) found.now }
-    requires met { Meets edition game.now claim }
+    requires all_met { All (MayBeMet edition game.now) found.now }
+    requires met { MayBeMet edition game.now claim }
     ensures { IsFindFault edition game.now result }
 {
     let first = &found[..count.min(found.len())];

@@ -8,10 +8,10 @@ ghost use Rattle.std.specs.List.{All};
 ghost use Rattle.game_check.specs.Closed.{is_allowed, instr_in};
 ghost use Rattle.chip8_lang.specs.State.{is_in_memory};
 ghost use Rattle.chip8_lang.specs.declared.view.Edition.{Edition};
-ghost use Rattle.game_check.specs.Obstacles.{claim_of, IsFindFault, IsHighEnd, IsLowEnd, Meets};
+ghost use Rattle.game_check.specs.Obstacles.{claim_of, IsFindFault, IsHighEnd, IsLowEnd, MayBeMet};
 ghost use Rattle.game_check.specs.Grammar.{is_behind};
 ghost use Rattle.game_check.specs.Order.{IsAscending};
-ghost use Rattle.game_check.specs.Searching.{AllMet, Grown, HasNode, Keeps};
+ghost use Rattle.game_check.specs.Searching.{AllMet, Grown, HasNode, StaysMet};
 
 use crate::claim::{Claim, Point, stack_of};
 use crate::closed::{
@@ -69,7 +69,7 @@ pub struct Search<'a> {
 /// The claims that a search from the start of a game comes to, in the order of a certificate; or where it failed.
 pub fn search_claims(alloc: Global, edition: Edition, game: &[u8]) -> Result<Vec<Claim>, FindFault>
     ensures in_order { IfOk result (λ claims. IsAscending claims.items) }
-    ensures met { IfOk result (λ claims. All (Meets edition game.now) claims.items) }
+    ensures met { IfOk result (λ claims. All (MayBeMet edition game.now) claims.items) }
     ensures fault { IfErr result (IsFindFault edition game.now) }
 {
     let mut search = start(alloc, edition, game)?;
@@ -112,16 +112,16 @@ impl Search<'_> {
     // The next node to be followed.
     fn next_waiting(&mut self) -> Option<usize>
         requires { AllMet self.now }
-        ensures { Keeps self.old self.new }
+        ensures { StaysMet self.old self.new }
     {
         let Reverse((_, place)) = self.waiting.pop()?;
         Some(place)
     }
 
-    // Meets the points behind a node.
+    // MayBeMet the points behind a node.
     fn follow(&mut self, alloc: Global, place: usize) -> Result<(), FindFault>
         requires { AllMet self.now }
-        ensures keeps { OnOk result (Keeps self.old self.new) }
+        ensures stays { OnOk result (StaysMet self.old self.new) }
         ensures fault { IfErr result (IsFindFault self.old.edition self.old.game.now) }
     {
         let Some(claim) = self.take_claim(place) else {
@@ -150,21 +150,19 @@ impl Search<'_> {
     // Takes the claim of a node that is followed now, so that the node no longer waits.
     fn take_claim(&mut self, place: usize) -> Option<Claim>
         requires { AllMet self.now }
-        ensures keeps { Keeps self.old self.new }
-        ensures met { IfSome result (Meets self.old.edition self.old.game.now) }
+        ensures stays { StaysMet self.old self.new }
+        ensures met { IfSome result (MayBeMet self.old.edition self.old.game.now) }
     {
-        if place >= self.nodes.len() {
-            return None;
-        }
-        self.nodes[place].waits = false;
-        Some(self.nodes[place].claim.copy())
+        let node = self.nodes.get_mut(place)?;
+        node.waits = false;
+        Some(node.claim.copy())
     }
 
     // A point is met with I from low to high. False where no more points are followed.
     fn meet(&mut self, point: Point, low: u16, high: u16) -> Result<bool, AllocError>
         requires all_met { AllMet self.now }
-        requires met { Meets self.now.edition self.now.game.now (claim_of point low high) }
-        ensures { OnOk result (Keeps self.old self.new) }
+        requires met { MayBeMet self.now.edition self.now.game.now (claim_of point low high) }
+        ensures { OnOk result (StaysMet self.old self.new) }
     {
         match self.find(&point) {
             Some(place) => self.join(place, &point, low, high)?,
@@ -194,8 +192,8 @@ impl Search<'_> {
     fn join(&mut self, place: usize, point: &Point, low: u16, high: u16) -> Result<(), AllocError>
         requires all_met { AllMet self.now }
         requires there { HasNode self.now.nodes.items place point.now }
-        requires met { Meets self.now.edition self.now.game.now (claim_of point.now low high) }
-        ensures { OnOk result (Keeps self.old self.new) }
+        requires met { MayBeMet self.now.edition self.now.game.now (claim_of point.now low high) }
+        ensures { OnOk result (StaysMet self.old self.new) }
     {
         let was_waiting = self.nodes[place].waits;
         if self.nodes[place].grow(self.edition, low, high) && !was_waiting {
@@ -207,8 +205,8 @@ impl Search<'_> {
     // A new node, which waits.
     fn add(&mut self, claim: Claim) -> Result<(), AllocError>
         requires all_met { AllMet self.now }
-        requires met { Meets self.now.edition self.now.game.now claim }
-        ensures { OnOk result (Keeps self.old self.new) }
+        requires met { MayBeMet self.now.edition self.now.game.now claim }
+        ensures { OnOk result (StaysMet self.old self.new) }
     {
         let place = self.nodes.len();
         let chain = chain_of(&claim.point);
@@ -230,7 +228,7 @@ impl Search<'_> {
     fn claims(&self, alloc: Global) -> Result<Vec<Claim>, AllocError>
         requires { AllMet self.now }
         ensures in_order { IfOk result (λ claims. IsAscending claims.items) }
-        ensures met { IfOk result (λ claims. All (Meets self.now.edition self.now.game.now) claims.items) }
+        ensures met { IfOk result (λ claims. All (MayBeMet self.now.edition self.now.game.now) claims.items) }
     {
         let mut claims = Vec::new(alloc);
         for node in self.nodes.as_slice() {
@@ -244,7 +242,7 @@ impl Search<'_> {
 // Of claims in the order of a certificate each one that comes behind those before it, which is each.
 fn in_order(alloc: Global, sorted: &[Claim]) -> Result<Vec<Claim>, AllocError>
     ensures in_order { IfOk result (λ claims. IsAscending claims.items) }
-    ensures met { (e : Edition) (game : List ℕ) → All (Meets e game) sorted.now → IfOk result (λ claims. All (Meets e game) claims.items) }
+    ensures met { (e : Edition) (game : List ℕ) → All (MayBeMet e game) sorted.now → IfOk result (λ claims. All (MayBeMet e game) claims.items) }
 {
     let mut claims = Vec::new(alloc);
     for claim in sorted {
