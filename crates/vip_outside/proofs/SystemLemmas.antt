@@ -2,7 +2,7 @@
 use Rattle.std.proofs.Common.{◌⊎◌, inl, inr, ◌-◌, min, nat_lt, Result, Ok, Err, IsErrAnd, subst, sym, length-append, append-nil, ◌≡◌, ◌≢◌, ℕ, zero, suc, ◌+◌, ◌<◌, ◌≤◌, List, [], ◌∷◌, ◌++◌, length, take, Option, Some, None, option_map, refl, ap, ◌∙◌, arith}
 use Rattle.std.proofs.Math.Seq.{take-append-add}
 use Rattle.std.proofs.lemmas.List.{take-append-le, take-take, length-take-le}
-use Rattle.std.proofs.lemmas.Grind.{common_steps}
+use Rattle.std.proofs.lemmas.Bool.{le-ltb, lt-ltb}
 use Rattle.vip_outside.specs.Files.{Answer, Read, and_read}
 use Rattle.vip_outside.specs.Files.Answer.{Whole, Start, Faulted}
 use Rattle.vip_outside.specs.Files.{Gives}
@@ -53,7 +53,7 @@ module _ (bytes block rest : List ℕ) (most room count : ℕ) (room_is : room �
   ended name old new loaded (inl none) few items more log =
       let nothing : min count room ≡ 0 = omega (arith, none) in (
         Whole bytes,
-        (fits, items ∙ ap (λ n. bytes ++ take n (block ++ rest)) nothing ∙ append-nil bytes, more ∙ ap (nat_lt room) none ∙ grind (arith, common_steps)),
+        (fits, items ∙ ap (λ n. bytes ++ take n (block ++ rest)) nothing ∙ append-nil bytes, more ∙ ap (nat_lt room) none ∙ le-ltb room 0 (omega arith)),
         log ∙ ap (λ n. and_read name (got n block (Start bytes)) old) none,
       )
   ended name old new loaded (inr over) few items more log =
@@ -69,7 +69,7 @@ module _ (bytes block rest : List ℕ) (most room count : ℕ) (room_is : room �
         (
           rw (length-append, length-take-le (suc room) block (omega (arith, given, all))) (omega (arith, room_is, fits)),
           items ∙ ap (λ n. bytes ++ take n (block ++ rest)) kept ∙ same,
-          more ∙ ap (nat_lt room) all ∙ grind (arith, common_steps),
+          more ∙ ap (nat_lt room) all ∙ lt-ltb room (suc room) (omega arith),
         ),
         log ∙ ap (λ n. and_read name (got n block (Start bytes)) old) all,
       )
