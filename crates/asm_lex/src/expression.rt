@@ -189,7 +189,7 @@ fn term_value<F: Fn(&[u8]) -> Option<u16>>(
     match number(isa, term) {
         Some(number) => Some(number),
         None if is_here(term) => Some(here),
-        None => look(term).map(u32::from),
+        None => Some(u32::from(look(term)?)),
     }
 }
 
@@ -262,8 +262,8 @@ fn apply_prefix(text: &[u8], sum: i64) -> Result<i64, ValueFault>
     ensures { result ≡ prefixed (slice_index text.now 0) sum }
 {
     match text {
-        [b'<', ..] => word(sum).map(|word| i64::from(word % 256)),
-        [b'>', ..] => word(sum).map(|word| i64::from(word / 256)),
+        [b'<', ..] => Ok(i64::from(word(sum)? % 256)),
+        [b'>', ..] => Ok(i64::from(word(sum)? / 256)),
         _ => Ok(sum),
     }
 }

@@ -70,8 +70,8 @@ fn mnemonic_entry(isa: Isa, word: &[u8]) -> Option<Entry>
     ensures { result ≡ mnemonic_entry isa word.now }
 {
     match isa {
-        Isa::Cdp1802 => opcode(word).map(Entry::Mnemonic),
-        Isa::Chip8 => form_named(word).map(Entry::Words),
+        Isa::Cdp1802 => Some(Entry::Mnemonic(opcode(word)?)),
+        Isa::Chip8 => Some(Entry::Words(form_named(word)?)),
     }
 }
 
@@ -262,8 +262,8 @@ pub(crate) fn meaning(
     ensures { result ≡ meaning_of isa (value_in names.now) entry has_label (map (text_at line.now) operands.now) }
 {
     match entry {
-        Entry::Mnemonic(opcode) => opcode_with(names, opcode, line, operands).map(Word::Code),
-        Entry::Words(form) => op_meaning(names, form, line, operands).map(Word::Instruction),
+        Entry::Mnemonic(opcode) => Some(Word::Code(opcode_with(names, opcode, line, operands)?)),
+        Entry::Words(form) => Some(Word::Instruction(op_meaning(names, form, line, operands)?)),
         Entry::Directive(directive) => directive_meaning(
             isa, names, directive, has_label, line, operands,
         ),
