@@ -15,7 +15,7 @@ use Rattle.chip8_lang.specs.State.{variable, instr_at}
 use Rattle.chip8_lang.specs.Step.{set, set_with_flag, stop_of, done_by}
 use Rattle.chip8_lang.specs.Step.KeyInput.{Nothing}
 use Rattle.chip8_lang.specs.Timed.{cycles}
-use Rattle.chip8_image.specs.Labels.{at_arith, at_slot0, at_flag, at_unknown82, at_halt}
+use Rattle.chip8_image.specs.declared.image.labels.TheConstants.{AT_ARITH, AT_SLOT0, AT_FLAG, AT_UNKNOWN82, AT_HALT}
 use Rattle.rom_law.proofs.Moves.{AllGood, quicks, reaches_in, reaches_from}
 use Rattle.rom_law.specs.Program.{code}
 use Rattle.rom_law.specs.Holding.{places, Holding}
@@ -67,7 +67,7 @@ module _ (e : Edition) (b : Machine) (h : Since) (f : FitsMachine b) where
 
   -- ---- the branch by N
 
-  pub arith_comes : Enters (quick e) at_arith 8 b (now h) → h.spent ≡ 80 → RunsBlock (quick e) (calm_pieces (quick e)) (OfArith Arith) b h
+  pub arith_comes : Enters (quick e) AT_ARITH 8 b (now h) → h.spent ≡ 80 → RunsBlock (quick e) (calm_pieces (quick e)) (OfArith Arith) b h
   arith_comes o spent = routine (OfArith Arith) o.entered _ (omega arith) refl (λ h' g. to_arith (quick e) g _ calm (Operation (low % 16)) (
     record {
       entered =
@@ -87,18 +87,18 @@ module _ (e : Edition) (b : Machine) (h : Since) (f : FitsMachine b) where
     refl,
   ) (omega (arith, spent, g.spent)))
     where
-      branch : (bit_and low 15 * 2 % 256 + 8) % 256 ≡ (at_slot0 + 2 * (low % 16)) % 256
+      branch : (bit_and low 15 * 2 % 256 + 8) % 256 ≡ (AT_SLOT0 + 2 * (low % 16)) % 256
       branch = rw (and_mask low 4) (omega arith)
 
-      calm : (130 * 256 + (bit_and low 15 * 2 % 256 + 8) % 256 == at_halt) ≡ false
-      calm = ne_eqb _ at_halt (λ k. omega (arith, k))
+      calm : (130 * 256 + (bit_and low 15 * 2 % 256 + 8) % 256 == AT_HALT) ≡ false
+      calm = ne_eqb _ AT_HALT (λ k. omega (arith, k))
 
   -- ---- the operations
 
   -- 8XYN with this n
   abbrev Case : ℕ → Type 0
   Case n =
-      Enters (quick e) (at_slot0 + 2 * n) 8 b (now h) → low % 16 ≡ n → b.regs.x ≡ 6 → h.spent ≡ 92
+      Enters (quick e) (AT_SLOT0 + 2 * n) 8 b (now h) → low % 16 ≡ n → b.regs.x ≡ 6 → h.spent ≡ 92
       → RunsBlock (quick e) (calm_pieces (quick e)) (OfArith (Operation n)) b h
 
   -- V0 to VF lie above the byte at R2
@@ -110,21 +110,21 @@ module _ (e : Edition) (b : Machine) (h : Since) (f : FitsMachine b) where
 
   module _ (n : ℕ) where
     abbrev slot : Machine
-    slot = pointed (at_slot0 + 2 * n) b.regs.d b.regs.df
+    slot = pointed (AT_SLOT0 + 2 * n) b.regs.d b.regs.df
 
-    is_slot : Enters (quick e) (at_slot0 + 2 * n) 8 b (now h) → b.regs.x ≡ 6 → b ≡ slot
+    is_slot : Enters (quick e) (AT_SLOT0 + 2 * n) 8 b (now h) → b.regs.x ≡ 6 → b ≡ slot
     unfolding pointed
     is_slot o by_r6 =
         is_entered o.entered ∙ (λ i. record (entered e
-        (at_slot0 + 2 * n) high low b) { regs = record (entered e (at_slot0 + 2 * n) high low b).regs { x = by_r6 i } })
+        (AT_SLOT0 + 2 * n) high low b) { regs = record (entered e (AT_SLOT0 + 2 * n) high low b).regs { x = by_r6 i } })
 
-    decoded : Enters (quick e) (at_slot0 + 2 * n) 8 b (now h) → low % 16 ≡ n → instr_at (now h) ≡ arithmetic n (high % 16) (low / 16) (high * 256 + low)
+    decoded : Enters (quick e) (AT_SLOT0 + 2 * n) 8 b (now h) → low % 16 ≡ n → instr_at (now h) ≡ arithmetic n (high % 16) (low / 16) (high * 256 + low)
     decoded o nibble = rw (o.digit, nibble) refl
 
     -- its instructions lead to c; what follows there is given
     operation : (c : Machine) → (Room → AllGood (code (quick e)) (calm_top e) (moves (OfArith (Operation n))) slot)
         → quicks (code (quick e)) (moves (OfArith (Operation n))) slot ≡ c
-        → (Enters (quick e) (at_slot0 + 2 * n) 8 b (now h) → instr_at (now h) ≡ arithmetic n (high % 16) (low / 16) (high * 256 + low) → h.spent ≡ 92
+        → (Enters (quick e) (AT_SLOT0 + 2 * n) 8 b (now h) → instr_at (now h) ≡ arithmetic n (high % 16) (low / 16) (high * 256 + low) → h.spent ≡ 92
         → (h' : Since) → Grows h (moves (OfArith (Operation n))) 0 h' → Ends (quick e) (calm_pieces (quick e)) c h') → Case n
     operation c good is ends o nibble by_r6 spent = record {
       runs = ready o.entered.holds;
@@ -140,7 +140,7 @@ module _ (e : Edition) (b : Machine) (h : Since) (f : FitsMachine b) where
     -- The instruction has a flag: it puts value of VX and VY into VX, and flag of them into VF.
     abbrev Flagged : (value flag : ℕ → ℕ → ℕ) → Type 0
     Flagged value flag =
-        let i = arithmetic n (high % 16) (low / 16) (high * 256 + low) in Entered (quick e) (at_slot0 + 2 * n) b (now h)
+        let i = arithmetic n (high % 16) (low / 16) (high * 256 + low) in Entered (quick e) (AT_SLOT0 + 2 * n) b (now h)
         → (has_shared_end i ≡ true) × (done_by e i Nothing (now h) ≡ set_with_flag (high % 16) (value vx vy) (flag vx vy) (now h))
         × (cycles e i Nothing (now h) ≡ 110 + 2 * moves (OfArith (Operation n)))
 
@@ -148,10 +148,10 @@ module _ (e : Edition) (b : Machine) (h : Since) (f : FitsMachine b) where
     flagged : (value flag : ℕ → ℕ → ℕ) → Flagged value flag
         → (Room → AllGood (code (quick e)) (calm_top e) (moves (OfArith (Operation n))) slot)
         → quicks (code (quick e)) (moves (OfArith (Operation n))) slot
-        ≡ pointed at_flag (value (byte_x e b (now h)) (byte_y e b (now h))) (flag (byte_x e b (now h)) (byte_y e b (now h))) → Case n
+        ≡ pointed AT_FLAG (value (byte_x e b (now h)) (byte_y e b (now h))) (flag (byte_x e b (now h)) (byte_y e b (now h))) → Case n
     unfolding pointed
     flagged value flag does good is = operation _ good is (λ o instr spent h' g. to_arith (quick e) g _ refl Flag (record {
-      entered = goes o.entered at_flag _ _;
+      entered = goes o.entered AT_FLAG _ _;
       shared = ap has_shared_end instr ∙ (does o.entered).0;
       makes =
           ap (λ i. done_by e i Nothing (now h)) instr ∙ (does o.entered).1
@@ -215,15 +215,15 @@ module _ (e : Edition) (b : Machine) (h : Since) (f : FitsMachine b) where
 
   -- where N is that of no instruction, the opcode is unknown
   other : (n : ℕ) → moves (OfArith (Operation n)) ≡ 1 → AllGood (code (quick e)) (calm_top e) (moves (OfArith (Operation n))) (slot n)
-      → quicks (code (quick e)) (moves (OfArith (Operation n))) (slot n) ≡ pointed at_unknown82 b.regs.d b.regs.df
+      → quicks (code (quick e)) (moves (OfArith (Operation n))) (slot n) ≡ pointed AT_UNKNOWN82 b.regs.d b.regs.df
       → ((x y o : ℕ) → arithmetic n x y o ≡ IsUnknown o) → Case n
   unfolding pointed
   other n one good is unknown =
       operation n _ (λ r. good) is (λ o instr spent h' g. to_arith (quick e) g _ refl Unknown82
-      (goes o.entered at_unknown82 _ _, rw (o.entered.inside, instr, unknown (high % 16) (low / 16) (high * 256 + low)) refl)
+      (goes o.entered AT_UNKNOWN82 _ _, rw (o.entered.inside, instr, unknown (high % 16) (low / 16) (high * 256 + low)) refl)
       (omega (arith, spent, one, g.spent, time o instr)))
     where
-      time : Enters (quick e) (at_slot0 + 2 * n) 8 b (now h) → instr_at (now h) ≡ arithmetic n (high % 16) (low / 16) (high * 256 + low)
+      time : Enters (quick e) (AT_SLOT0 + 2 * n) 8 b (now h) → instr_at (now h) ≡ arithmetic n (high % 16) (low / 16) (high * 256 + low)
           → to_stop (quick e) (now h) ≡ 120
       time o instr = rw (o.entered.inside, instr, unknown (high % 16) (low / 16) (high * 256 + low), o.digit) refl
 
@@ -238,7 +238,7 @@ module _ (e : Edition) (b : Machine) (h : Since) (f : FitsMachine b) where
 
   -- ---- the ends
 
-  pub flag_comes : Ending (quick e) at_flag (set_with_flag (high % 16) b.regs.d b.regs.df (now h)) b (now h)
+  pub flag_comes : Ending (quick e) AT_FLAG (set_with_flag (high % 16) b.regs.d b.regs.df (now h)) b (now h)
       → h.spent + 18 ≡ to_dispatch (quick e) (now h) → RunsBlock (quick e) (calm_pieces (quick e)) (OfArith Flag) b h
   flag_comes o spent =
       ending (OfArith Flag) o spent _ (omega arith) refl
@@ -248,7 +248,7 @@ module _ (e : Edition) (b : Machine) (h : Since) (f : FitsMachine b) where
       flag : (0 * 2 + b.regs.df) % 256 ≡ b.regs.df
       flag = omega (arith, f.regs.df)
 
-  pub unknown82_comes : Entered (quick e) at_unknown82 b (now h) → stop_of e (now h) ≡ Some Unknown → h.spent + 26 ≡ to_stop (quick e) (now h)
+  pub unknown82_comes : Entered (quick e) AT_UNKNOWN82 b (now h) → stop_of e (now h) ≡ Some Unknown → h.spent + 26 ≡ to_stop (quick e) (now h)
       → RunsBlock (quick e) (calm_pieces (quick e)) (OfArith Unknown82) b h
   unknown82_comes o stop spent =
       routine (OfArith Unknown82) o _ (omega arith) refl

@@ -12,7 +12,7 @@ use Rattle.chip8_lang.specs.declared.view.Edition.{Edition}
 use Rattle.chip8_lang.specs.declared.view.Stop.TheVariants.{MachineCall, StackEmpty, StackFull}
 use Rattle.chip8_lang.specs.State.{variable, instr_at}
 use Rattle.chip8_lang.specs.Step.{next, stop_of}
-use Rattle.chip8_image.specs.Labels.{at_system, at_system_low, at_system_back, at_machine, at_return, at_return_take, at_empty, at_jump, at_call, at_call_put, at_full, at_jump_plus, at_clear}
+use Rattle.chip8_image.specs.declared.image.labels.TheConstants.{AT_SYSTEM, AT_SYSTEM_LOW, AT_SYSTEM_BACK, AT_MACHINE, AT_RETURN, AT_RETURN_TAKE, AT_EMPTY, AT_JUMP, AT_CALL, AT_CALL_PUT, AT_FULL, AT_JUMP_PLUS, AT_CLEAR}
 use Rattle.rom_law.specs.Holding.{Places, places, Holding}
 use Rattle.rom_law.specs.Rows.{Since, now}
 use Rattle.rom_law.proofs.Places.{pc_is, pc_set, v_get, v_byte, stack_most}
@@ -73,30 +73,30 @@ module _ (e : Edition) (b : Machine) (h : Since) (f : FitsMachine b) where
   low_machine a o zero clear back =
       rw (o.inside, zero, ne_eqb (0 + low) 0xe0 (λ k. clear (omega (arith, k))), ne_eqb (0 + low) 0xee (λ k. back (omega (arith, k)))) refl
 
-  pub system_comes : Enters (quick e) at_system 0 b (now h) → h.spent ≡ 80 → RunsBlock (quick e) (calm_pieces (quick e)) (OfArith System) b h
-  system_comes o spent = branch (OfArith System) o.entered (looked e high low b high) (not (high == 0)) at_machine at_system_low (omega arith) refl
-      (λ k h' g. to_arith (quick e) g _ refl MachineCode (looks high at_machine o.entered, other_machine at_system o (nonzero high k))
+  pub system_comes : Enters (quick e) AT_SYSTEM 0 b (now h) → h.spent ≡ 80 → RunsBlock (quick e) (calm_pieces (quick e)) (OfArith System) b h
+  system_comes o spent = branch (OfArith System) o.entered (looked e high low b high) (not (high == 0)) AT_MACHINE AT_SYSTEM_LOW (omega arith) refl
+      (λ k h' g. to_arith (quick e) g _ refl MachineCode (looks high AT_MACHINE o.entered, other_machine AT_SYSTEM o (nonzero high k))
       (omega (arith, spent, g.spent, other_time o (nonzero high k))))
-      (λ k h' g. to_arith (quick e) g _ refl SystemLow (looks high at_system_low o.entered, is_zero high k) (omega (arith, spent, g.spent)))
+      (λ k h' g. to_arith (quick e) g _ refl SystemLow (looks high AT_SYSTEM_LOW o.entered, is_zero high k) (omega (arith, spent, g.spent)))
 
-  pub system_low_comes : Entered (quick e) at_system_low b (now h) → high ≡ 0 → h.spent ≡ 84 → RunsBlock (quick e) (calm_pieces (quick e)) (OfArith SystemLow) b h
+  pub system_low_comes : Entered (quick e) AT_SYSTEM_LOW b (now h) → high ≡ 0 → h.spent ≡ 84 → RunsBlock (quick e) (calm_pieces (quick e)) (OfArith SystemLow) b h
   system_low_comes o zero spent =
-      branch (OfArith SystemLow) o (looked e high low b (bit_xor low 0xe0)) (bit_xor low 0xe0 == 0) at_clear at_system_back (omega arith) refl
-      (λ k h' g. to_sprite (quick e) g _ refl Clear tt (looks (bit_xor low 0xe0) at_clear o, (zero, xor_same low 0xe0 k)) (omega (arith, spent, g.spent)))
-      (λ k h' g. to_arith (quick e) g _ refl SystemBack (looks (bit_xor low 0xe0) at_system_back o, zero, xor_other low 0xe0 k) (omega (arith, spent, g.spent)))
+      branch (OfArith SystemLow) o (looked e high low b (bit_xor low 0xe0)) (bit_xor low 0xe0 == 0) AT_CLEAR AT_SYSTEM_BACK (omega arith) refl
+      (λ k h' g. to_sprite (quick e) g _ refl Clear tt (looks (bit_xor low 0xe0) AT_CLEAR o, (zero, xor_same low 0xe0 k)) (omega (arith, spent, g.spent)))
+      (λ k h' g. to_arith (quick e) g _ refl SystemBack (looks (bit_xor low 0xe0) AT_SYSTEM_BACK o, zero, xor_other low 0xe0 k) (omega (arith, spent, g.spent)))
 
-  pub system_back_comes : Entered (quick e) at_system_back b (now h) → high ≡ 0 → (low ≡ 0xe0 → ⊥) → h.spent ≡ 90
+  pub system_back_comes : Entered (quick e) AT_SYSTEM_BACK b (now h) → high ≡ 0 → (low ≡ 0xe0 → ⊥) → h.spent ≡ 90
       → RunsBlock (quick e) (calm_pieces (quick e)) (OfArith SystemBack) b h
   system_back_comes o zero clear spent =
-      branch (OfArith SystemBack) o (looked e high low b (bit_xor low 0xee)) (bit_xor low 0xee == 0) at_return at_machine (omega arith) refl
-      (λ k h' g. to_arith (quick e) g _ refl Return (looks (bit_xor low 0xee) at_return o, zero, xor_same low 0xee k) (omega (arith, spent, g.spent)))
+      branch (OfArith SystemBack) o (looked e high low b (bit_xor low 0xee)) (bit_xor low 0xee == 0) AT_RETURN AT_MACHINE (omega arith) refl
+      (λ k h' g. to_arith (quick e) g _ refl Return (looks (bit_xor low 0xee) AT_RETURN o, zero, xor_same low 0xee k) (omega (arith, spent, g.spent)))
       (λ k h' g. to_arith (quick e) g _ refl MachineCode
-      (looks (bit_xor low 0xee) at_machine o, low_machine at_system_back o zero clear (xor_other low 0xee k))
+      (looks (bit_xor low 0xee) AT_MACHINE o, low_machine AT_SYSTEM_BACK o zero clear (xor_other low 0xee k))
       (omega (arith, spent, g.spent, low_time o zero clear (xor_other low 0xee k))))
 
   -- ---- the stops: their number goes into D
 
-  pub machine_comes : Entered (quick e) at_machine b (now h) → stop_of e (now h) ≡ Some MachineCall → h.spent + 26 ≡ to_stop (quick e) (now h)
+  pub machine_comes : Entered (quick e) AT_MACHINE b (now h) → stop_of e (now h) ≡ Some MachineCall → h.spent + 26 ≡ to_stop (quick e) (now h)
       → RunsBlock (quick e) (calm_pieces (quick e)) (OfArith MachineCode) b h
   machine_comes o stop spent =
       routine (OfArith MachineCode) o _ (omega arith) refl
@@ -104,7 +104,7 @@ module _ (e : Edition) (b : Machine) (h : Since) (f : FitsMachine b) where
       (record { holds = o.holds; p = refl; r3 = refl; stop = MachineCall; fits = stop; number = refl }, omega arith)
       (omega (arith, spent, g.spent)))
 
-  pub empty_comes : Entered (quick e) at_empty b (now h) → stop_of e (now h) ≡ Some StackEmpty → h.spent + 26 ≡ to_stop (quick e) (now h)
+  pub empty_comes : Entered (quick e) AT_EMPTY b (now h) → stop_of e (now h) ≡ Some StackEmpty → h.spent + 26 ≡ to_stop (quick e) (now h)
       → RunsBlock (quick e) (calm_pieces (quick e)) (OfArith Empty) b h
   empty_comes o stop spent =
       routine (OfArith Empty) o _ (omega arith) refl
@@ -112,7 +112,7 @@ module _ (e : Edition) (b : Machine) (h : Since) (f : FitsMachine b) where
       (record { holds = o.holds; p = refl; r3 = refl; stop = StackEmpty; fits = stop; number = refl }, omega arith)
       (omega (arith, spent, g.spent)))
 
-  pub full_comes : Entered (quick e) at_full b (now h) → stop_of e (now h) ≡ Some StackFull → h.spent + 26 ≡ to_stop (quick e) (now h)
+  pub full_comes : Entered (quick e) AT_FULL b (now h) → stop_of e (now h) ≡ Some StackFull → h.spent + 26 ≡ to_stop (quick e) (now h)
       → RunsBlock (quick e) (calm_pieces (quick e)) (OfArith Full) b h
   full_comes o stop spent =
       routine (OfArith Full) o _ (omega arith) refl
@@ -138,24 +138,24 @@ module _ (e : Edition) (b : Machine) (h : Since) (f : FitsMachine b) where
   r2_is : {a : ℕ} → Entered (quick e) a b (now h) → b.regs.r.r2.lo + 2 * depth ≡ 0xcf
   r2_is o = omega (arith, o.holds.stack, stack_most o.holds, stack_top_is e, f.regs.r.r2.hi, f.regs.r.r2.lo)
 
-  pub return_comes : Entered (quick e) at_return b (now h) → high ≡ 0 → low ≡ 0xee → h.spent ≡ 96 → RunsBlock (quick e) (calm_pieces (quick e)) (OfArith Return) b h
+  pub return_comes : Entered (quick e) AT_RETURN b (now h) → high ≡ 0 → low ≡ 0xee → h.spent ≡ 96 → RunsBlock (quick e) (calm_pieces (quick e)) (OfArith Return) b h
   return_comes o zero back spent =
-      branch (OfArith Return) o (looked e high low b (bit_xor b.regs.r.r2.lo 0xcf)) (bit_xor b.regs.r.r2.lo 0xcf == 0) at_empty at_return_take
+      branch (OfArith Return) o (looked e high low b (bit_xor b.regs.r.r2.lo 0xcf)) (bit_xor b.regs.r.r2.lo 0xcf == 0) AT_EMPTY AT_RETURN_TAKE
       (omega arith) refl
       (λ k h' g. to_arith (quick e) g _ refl Empty (
-        looks (bit_xor b.regs.r.r2.lo 0xcf) at_empty o,
-        return_stops at_return o zero back (omega
+        looks (bit_xor b.regs.r.r2.lo 0xcf) AT_EMPTY o,
+        return_stops AT_RETURN o zero back (omega
             (arith, xor_same b.regs.r.r2.lo 0xcf k, r2_is o)),
       ) (omega (arith, spent, g.spent, return_time o zero back)))
       (λ k h' g. to_arith (quick e) g _ refl ReturnTake
-      (looks (bit_xor b.regs.r.r2.lo 0xcf) at_return_take o, zero, back, omega (arith, xor_other b.regs.r.r2.lo 0xcf k, r2_is o))
+      (looks (bit_xor b.regs.r.r2.lo 0xcf) AT_RETURN_TAKE o, zero, back, omega (arith, xor_other b.regs.r.r2.lo 0xcf k, r2_is o))
       (omega (arith, spent, g.spent)))
 
-  pub return_take_comes : Entered (quick e) at_return_take b (now h) → high ≡ 0 → low ≡ 0xee → 0 < depth → h.spent ≡ 102
+  pub return_take_comes : Entered (quick e) AT_RETURN_TAKE b (now h) → high ≡ 0 → low ≡ 0xee → 0 < depth → h.spent ≡ 102
       → RunsBlock (quick e) (calm_pieces (quick e)) (OfArith ReturnTake) b h
   return_take_comes o zero back some spent =
       routine (OfArith ReturnTake) o _ (omega (arith, o.holds.stack, stack_top_is e, page_fits e, some, f.regs.r.r2.hi, f.regs.r.r2.lo)) refl
-      (λ h' g. steps e g ReturnFrom (return_is at_return_take o zero back) refl (return_runs at_return_take o zero back some)
+      (λ h' g. steps e g ReturnFrom (return_is AT_RETURN_TAKE o zero back) refl (return_runs AT_RETURN_TAKE o zero back some)
       (omega (arith, spent)) tt _
       (pc_set (pop o.holds f.regs.r.r2 some) taken _ (popped o.holds f.regs.r.r2 some)) refl refl)
     where
@@ -164,16 +164,16 @@ module _ (e : Edition) (b : Machine) (h : Since) (f : FitsMachine b) where
 
   -- ---- 1MMM
 
-  jump_is : Enters (quick e) at_jump 1 b (now h) → instr_at (now h) ≡ Jump (high % 16 * 256 + low)
+  jump_is : Enters (quick e) AT_JUMP 1 b (now h) → instr_at (now h) ≡ Jump (high % 16 * 256 + low)
   jump_is o = rw o.digit refl
 
-  jump_runs : Enters (quick e) at_jump 1 b (now h) → stop_of e (now h) ≡ None
+  jump_runs : Enters (quick e) AT_JUMP 1 b (now h) → stop_of e (now h) ≡ None
   jump_runs o = rw (o.entered.inside, o.digit) refl
 
   target : value (word (bit_and high 15) low) ≡ high % 16 * 256 + low
   target = ap (λ d. d * 256 + low) (and_mask high 4)
 
-  pub jump_comes : Enters (quick e) at_jump 1 b (now h) → h.spent ≡ 80 → RunsBlock (quick e) (calm_pieces (quick e)) (OfArith JumpTo) b h
+  pub jump_comes : Enters (quick e) AT_JUMP 1 b (now h) → h.spent ≡ 80 → RunsBlock (quick e) (calm_pieces (quick e)) (OfArith JumpTo) b h
   jump_comes o spent =
       routine (OfArith JumpTo) o.entered _ (omega arith) refl
       (λ h' g. steps e g (Jump (high % 16 * 256 + low)) (jump_is o) refl (jump_runs o) (omega (arith, spent)) tt _
@@ -193,16 +193,16 @@ module _ (e : Edition) (b : Machine) (h : Since) (f : FitsMachine b) where
   call_runs : {a : ℕ} → Enters (quick e) a 2 b (now h) → depth < 12 → stop_of e (now h) ≡ None
   call_runs o room = rw (o.entered.inside, o.digit, ne_eqb depth 12 (λ k. omega (arith, k, room))) refl
 
-  pub call_comes : Enters (quick e) at_call 2 b (now h) → h.spent ≡ 80 → RunsBlock (quick e) (calm_pieces (quick e)) (OfArith Call) b h
+  pub call_comes : Enters (quick e) AT_CALL 2 b (now h) → h.spent ≡ 80 → RunsBlock (quick e) (calm_pieces (quick e)) (OfArith Call) b h
   call_comes o spent =
-      branch (OfArith Call) o.entered (looked e high low b (bit_xor b.regs.r.r2.lo 0xb7)) (bit_xor b.regs.r.r2.lo 0xb7 == 0) at_full at_call_put
+      branch (OfArith Call) o.entered (looked e high low b (bit_xor b.regs.r.r2.lo 0xb7)) (bit_xor b.regs.r.r2.lo 0xb7 == 0) AT_FULL AT_CALL_PUT
       (omega arith) refl
       (λ k h' g. to_arith (quick e) g _ refl Full
-      (looks (bit_xor b.regs.r.r2.lo 0xb7) at_full o.entered, call_stops o (omega (arith, xor_same b.regs.r.r2.lo 0xb7 k, r2_is o.entered)))
+      (looks (bit_xor b.regs.r.r2.lo 0xb7) AT_FULL o.entered, call_stops o (omega (arith, xor_same b.regs.r.r2.lo 0xb7 k, r2_is o.entered)))
       (omega (arith, spent, g.spent, call_time o)))
       (λ k h' g. to_arith (quick e) g _ refl CallPut (
         record {
-          entered = looks (bit_xor b.regs.r.r2.lo 0xb7) at_call_put o.entered;
+          entered = looks (bit_xor b.regs.r.r2.lo 0xb7) AT_CALL_PUT o.entered;
           digit = o.digit;
         },
         omega (arith, xor_other b.regs.r.r2.lo 0xb7 k, r2_is o.entered, stack_most o.entered.holds),
@@ -223,7 +223,7 @@ module _ (e : Edition) (b : Machine) (h : Since) (f : FitsMachine b) where
       subst (λ z. Holding (quick e) pushed (record (next (now h)) { stack = (now h).stack ++ z ∷ [] })) (pc_is o.entered.holds)
       (push o.entered.holds f.regs.r.r2 room b.regs.r.r5.hi b.regs.r.r5.lo)
 
-  pub call_put_comes : Enters (quick e) at_call_put 2 b (now h) → depth < 12 → h.spent ≡ 86
+  pub call_put_comes : Enters (quick e) AT_CALL_PUT 2 b (now h) → depth < 12 → h.spent ≡ 86
       → RunsBlock (quick e) (calm_pieces (quick e)) (OfArith CallPut) b h
   call_put_comes o room spent =
       routine (OfArith CallPut) o.entered _
@@ -233,23 +233,23 @@ module _ (e : Edition) (b : Machine) (h : Since) (f : FitsMachine b) where
 
   -- ---- BMMM
 
-  plus_is : Enters (quick e) at_jump_plus 11 b (now h) → instr_at (now h) ≡ JumpBy (high % 16 * 256 + low)
+  plus_is : Enters (quick e) AT_JUMP_PLUS 11 b (now h) → instr_at (now h) ≡ JumpBy (high % 16 * 256 + low)
   plus_is o = rw o.digit refl
 
-  plus_runs : Enters (quick e) at_jump_plus 11 b (now h) → stop_of e (now h) ≡ None
+  plus_runs : Enters (quick e) AT_JUMP_PLUS 11 b (now h) → stop_of e (now h) ≡ None
   plus_runs o = rw (o.entered.inside, o.digit) refl
 
   -- the sum of the low bytes, and the jump's target
   abbrev low_sum : ℕ
   low_sum = read (both e) b.latch b.ram (value (word (page_of e) 240)) + low
 
-  sum_is : Enters (quick e) at_jump_plus 11 b (now h)
+  sum_is : Enters (quick e) AT_JUMP_PLUS 11 b (now h)
       → value (word ((0 + bit_and high 15 + low_sum / 256) % 256) (low_sum % 256)) ≡ high % 16 * 256 + low + variable (now h) 0
   sum_is o =
       rw (and_mask high 4, v_get o.entered.holds (value (word (page_of e) 240)) 0 (omega (arith, variables_is e)) (omega arith))
       (omega (arith, v_byte o.entered.holds f.ram 0 (omega arith), low_fits o.entered f))
 
-  pub jump_plus_comes : Enters (quick e) at_jump_plus 11 b (now h) → h.spent ≡ 80 → RunsBlock (quick e) (calm_pieces (quick e)) (OfArith JumpPlus) b h
+  pub jump_plus_comes : Enters (quick e) AT_JUMP_PLUS 11 b (now h) → h.spent ≡ 80 → RunsBlock (quick e) (calm_pieces (quick e)) (OfArith JumpPlus) b h
   jump_plus_comes o spent =
       routine (OfArith JumpPlus) o.entered _ (omega (arith, o.entered.holds.stack, stack_top_is e, page_fits e)) refl
       (λ h' g. steps e g (JumpBy (high % 16 * 256 + low)) (plus_is o) refl (plus_runs o) (omega (arith, spent)) tt _

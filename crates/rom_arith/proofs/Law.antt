@@ -3,7 +3,7 @@ use Rattle.std.proofs.Common.{◌≡◌, ℕ, zero, suc, ◌+◌, ◌*◌, ◌%�
 use Rattle.machine.specs.Board.{Machine}
 use Rattle.machine.specs.Ranges.{FitsMachine}
 use Rattle.chip8_lang.specs.declared.view.Edition.{Edition}
-use Rattle.chip8_image.specs.Labels.{at_slot0}
+use Rattle.chip8_image.specs.declared.image.labels.TheConstants.{AT_SLOT0}
 use Rattle.chip8_image.specs.declared.parts.Part.TheVariants.{Arith as IsArith}
 use Rattle.rom_rows.specs.Heads.{Entered, low_byte}
 use Rattle.rom_rows.specs.ArithBlocks.{ArithBlock, no_skip_labels}
@@ -68,7 +68,7 @@ module _ (e : Edition) (b : Machine) (h : Since) where
   no_skip_follows (suc (suc (suc (suc i)))) l o = absurd (omega (arith, l))
 
   abbrev SlotFollows : ℕ → Type 0
-  SlotFollows n = Entered (quick e) (at_slot0 + 2 * n) b (now h) → Follows (quick e) (OfArith (Operation n)) b
+  SlotFollows n = Entered (quick e) (AT_SLOT0 + 2 * n) b (now h) → Follows (quick e) (OfArith (Operation n)) b
 
   slot_follows : (n : ℕ) → low_byte (now h) % 16 ≡ n → SlotFollows n
   slot_follows n is =

@@ -6,7 +6,7 @@ use Rattle.machine.specs.Ranges.{FitsMachine}
 use Rattle.chip8_lang.specs.declared.instr.Instr.TheVariants.{Load as IsLoad, Add as IsAdd}
 use Rattle.chip8_lang.specs.declared.view.Edition.{Edition}
 use Rattle.chip8_lang.specs.State.{variable}
-use Rattle.chip8_image.specs.Labels.{at_load, at_add}
+use Rattle.chip8_image.specs.declared.image.labels.TheConstants.{AT_LOAD, AT_ADD}
 use Rattle.rom_law.specs.Rows.{Since, now}
 use Rattle.rom_law.proofs.Places.{v_get, v_set}
 use Rattle.rom_law.proofs.Kept.{RunsBlock}
@@ -26,13 +26,13 @@ module _ (e : Edition) (b : Machine) (h : Since) (f : FitsMachine b) where
   abbrev low : ℕ
   low = low_byte (now h)
 
-  pub load_comes : Enters (quick e) at_load 6 b (now h) → h.spent ≡ 80 → RunsBlock (quick e) (calm_pieces (quick e)) (OfArith Load) b h
+  pub load_comes : Enters (quick e) AT_LOAD 6 b (now h) → h.spent ≡ 80 → RunsBlock (quick e) (calm_pieces (quick e)) (OfArith Load) b h
   load_comes o spent =
       routine (OfArith Load) o.entered _ (omega arith) refl
       (λ h' g. steps e g (IsLoad (high % 16) low) (rw o.digit refl) refl (rw (o.entered.inside, o.digit) refl) (omega (arith, spent)) tt _
       (v_set o.entered.holds _ (high % 16) low (omega (arith, variables_is e)) (omega arith)) refl refl)
 
-  pub add_comes : Enters (quick e) at_add 7 b (now h) → h.spent ≡ 80 → RunsBlock (quick e) (calm_pieces (quick e)) (OfArith Add) b h
+  pub add_comes : Enters (quick e) AT_ADD 7 b (now h) → h.spent ≡ 80 → RunsBlock (quick e) (calm_pieces (quick e)) (OfArith Add) b h
   add_comes o spent =
       routine (OfArith Add) o.entered _ (omega (arith, o.entered.holds.stack, stack_top_is e)) refl
       (λ h' g. steps e g (IsAdd (high % 16) low) (rw o.digit refl) refl (rw (o.entered.inside, o.digit) refl) (omega (arith, spent)) tt _

@@ -11,11 +11,11 @@ use Rattle.chip8_lang.specs.declared.view.Edition.{Edition}
 use Rattle.chip8_lang.specs.State.{Lang, variable, instr_at}
 use Rattle.chip8_lang.specs.Step.{stop_of, stop_of_instr}
 use Rattle.chip8_lang.specs.Step.KeyInput.{Nothing}
-use Rattle.chip8_image.specs.Labels.{at_fetch}
+use Rattle.chip8_image.specs.declared.image.labels.TheConstants.{AT_FETCH}
 use Rattle.rom_law.proofs.Moves.{AllGood, quicks}
 use Rattle.rom_law.specs.Program.{code}
 use Rattle.rom_law.specs.Holding.{places, Holding}
-use Rattle.rom_law.specs.Moments.{Moment, Tells}
+use Rattle.rom_law.specs.Moments.{Moment, MovesTell}
 use Rattle.rom_law.specs.Rows.{Since, now}
 use Rattle.rom_law.proofs.Places.{v_get}
 use Rattle.rom_law.proofs.Kept.{RunsBlock}
@@ -54,7 +54,7 @@ shared_prompt (SkipUp x) k = cc
 shared_prompt (WaitKey x) k = cc
 shared_prompt _ k = refl
 
-shared_told : (i : Instr) (s : Lang) (moments : List Moment) (spent n : ℕ) → has_shared_end i ≡ true → Tells i s moments spent n Nothing
+shared_told : (i : Instr) (s : Lang) (moments : List Moment) (spent n : ℕ) → has_shared_end i ≡ true → MovesTell i s moments spent n Nothing
 shared_told (Random x m) s moments spent n k = cc
 shared_told (GetDelay x) s moments spent n k = cc
 shared_told (SetDelay x) s moments spent n k = cc
@@ -76,7 +76,7 @@ pub ending : {e : Edition} {b : Machine} {h : Since} {a : ℕ} {z : Lang} (l : B
     → h.spent + 2 * moves l ≡ to_dispatch (quick e) (now h) → (c : Machine)
     → AllGood (code (quick e)) (calm_top e) (moves l) (entered e a (high_byte (now h)) (low_byte (now h)) b)
     → quicks (code (quick e)) (moves l) (entered e a (high_byte (now h)) (low_byte (now h)) b) ≡ c → Holding (quick e) (places c) z → c.regs.p ≡ 4
-    → c.regs.r.r4 ≡ word_of at_fetch → RunsBlock (quick e) (calm_pieces (quick e)) l b h
+    → c.regs.r.r4 ≡ word_of AT_FETCH → RunsBlock (quick e) (calm_pieces (quick e)) l b h
 ending {e = e} {h = h} l o time c good is holds p r4 =
     routine l o.entered c good is (λ h' g. steps e g (instr_at (now h)) refl (shared_prompt _ o.shared) runs time
     (shared_told _ h'.state h'.moments h'.spent h'.ticks o.shared) c

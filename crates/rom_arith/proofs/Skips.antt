@@ -13,7 +13,7 @@ use Rattle.chip8_lang.specs.State.{variable, instr_at}
 use Rattle.chip8_lang.specs.Step.{skip_if, stop_of, step}
 use Rattle.chip8_lang.specs.Step.KeyInput.{Nothing}
 use Rattle.chip8_lang.specs.Timed.{skip_cycles}
-use Rattle.chip8_image.specs.Labels.{at_skip_eq, at_skip_ne, at_skip_same, at_skip_same_test, at_skip_differ, at_differ_test, at_skip, at_unknown81, at_halt}
+use Rattle.chip8_image.specs.declared.image.labels.TheConstants.{AT_SKIP_EQ, AT_SKIP_NE, AT_SKIP_SAME, AT_SKIP_SAME_TEST, AT_SKIP_DIFFER, AT_DIFFER_TEST, AT_SKIP, AT_UNKNOWN81, AT_HALT}
 use Rattle.rom_law.proofs.Moves.{AllGood, quicks}
 use Rattle.rom_law.specs.Program.{code}
 use Rattle.rom_law.specs.Rows.{Since, now}
@@ -43,8 +43,8 @@ xor_test a b = go (cases_eq b a)
     go (inr d) = other_xor a b (λ is. d (sym is)) ∙ sym (ne_eqb b a d)
 
 -- none of these labels is the stop
-no_halt : (i : ℕ) → i < 4 → (value (word_of (slice_index no_skip_labels i)) == at_halt) ≡ false
-no_halt i l = agree_below_at (λ k. value (word_of (slice_index no_skip_labels k)) == at_halt) (λ k. false) 4 i refl l
+no_halt : (i : ℕ) → i < 4 → (value (word_of (slice_index no_skip_labels i)) == AT_HALT) ≡ false
+no_halt i l = agree_below_at (λ k. value (word_of (slice_index no_skip_labels k)) == AT_HALT) (λ k. false) 4 i refl l
 
 module _ (e : Edition) (b : Machine) (h : Since) (f : FitsMachine b) where
   abbrev high : ℕ
@@ -71,9 +71,9 @@ module _ (e : Edition) (b : Machine) (h : Since) (f : FitsMachine b) where
       → to_dispatch (quick e) (now h) ≡ skip_cycles n far
       → AllGood (code (quick e)) (calm_top e) (moves (OfArith l)) (entered e a high low b)
       → quicks (code (quick e)) (moves (OfArith l)) (entered e a high low b)
-      ≡ tested d (cond t (word_of at_skip) (word_of (slice_index no_skip_labels i))) → RunsBlock (quick e) (calm_pieces (quick e)) (OfArith l) b h
-  skips l i o d t far same shared makes small n spent time good is = branch (OfArith l) o (tested d) t at_skip (slice_index no_skip_labels i) good is
-      (λ k h' g. to_arith (quick e) g _ refl Skip (record { entered = goes d at_skip o; shared = shared; makes = made k })
+      ≡ tested d (cond t (word_of AT_SKIP) (word_of (slice_index no_skip_labels i))) → RunsBlock (quick e) (calm_pieces (quick e)) (OfArith l) b h
+  skips l i o d t far same shared makes small n spent time good is = branch (OfArith l) o (tested d) t AT_SKIP (slice_index no_skip_labels i) good is
+      (λ k h' g. to_arith (quick e) g _ refl Skip (record { entered = goes d AT_SKIP o; shared = shared; makes = made k })
       (omega (arith, spent, g.spent, timed k)))
       (λ k h' g. to_arith (quick e) g _ (no_halt i small) (NoSkip i)
       (record { entered = goes d (slice_index no_skip_labels i) o; shared = shared; makes = made k }, small) (omega (arith, spent, g.spent, timed k)))
@@ -91,12 +91,12 @@ module _ (e : Edition) (b : Machine) (h : Since) (f : FitsMachine b) where
   kk_test : {a : ℕ} → Entered (quick e) a b (now h) → (kk_x == 0) ≡ (variable (now h) (high % 16) == low)
   kk_test o = xor_test low _ ∙ ap (λ v. v == low) (is_vx o)
 
-  pub eq_comes : Enters (quick e) at_skip_eq 3 b (now h) → h.spent ≡ 80 → RunsBlock (quick e) (calm_pieces (quick e)) (OfArith SkipEq) b h
+  pub eq_comes : Enters (quick e) AT_SKIP_EQ 3 b (now h) → h.spent ≡ 80 → RunsBlock (quick e) (calm_pieces (quick e)) (OfArith SkipEq) b h
   eq_comes o spent =
       skips SkipEq 0 o.entered kk_x _ _ (kk_test o.entered) (rw o.digit refl) (rw o.digit refl) (omega arith) 90 (omega (arith, spent)) (rw o.digit refl)
       (omega (arith, o.entered.holds.stack, stack_top_is e)) refl
 
-  pub ne_comes : Enters (quick e) at_skip_ne 4 b (now h) → h.spent ≡ 80 → RunsBlock (quick e) (calm_pieces (quick e)) (OfArith SkipNe) b h
+  pub ne_comes : Enters (quick e) AT_SKIP_NE 4 b (now h) → h.spent ≡ 80 → RunsBlock (quick e) (calm_pieces (quick e)) (OfArith SkipNe) b h
   ne_comes o spent =
       skips SkipNe 1 o.entered kk_x _ _ (ap not (kk_test o.entered)) (rw o.digit refl) (rw o.digit refl) (omega arith) 90
       (omega (arith, spent)) (rw o.digit refl)
@@ -109,13 +109,13 @@ module _ (e : Edition) (b : Machine) (h : Since) (f : FitsMachine b) where
   y_test : {a : ℕ} → Entered (quick e) a b (now h) → (y_x == 0) ≡ (variable (now h) (high % 16) == variable (now h) (low / 16))
   y_test o = xor_test _ _ ∙ ap₂ (λ v w. v == w) (is_vx o) (is_vy o f)
 
-  pub same_comes : Enters (quick e) at_skip_same_test 5 b (now h) → low % 16 ≡ 0 → h.spent ≡ 86 → RunsBlock (quick e) (calm_pieces (quick e)) (OfArith SameTest) b h
+  pub same_comes : Enters (quick e) AT_SKIP_SAME_TEST 5 b (now h) → low % 16 ≡ 0 → h.spent ≡ 86 → RunsBlock (quick e) (calm_pieces (quick e)) (OfArith SameTest) b h
   same_comes o n spent =
       skips SameTest 2 o.entered y_x _ _ (y_test o.entered) (rw (o.digit, n) refl) (rw (o.digit, n) refl) (omega arith) 96
       (omega (arith, spent)) (rw (o.digit, n) refl)
       (omega (arith, o.entered.holds.stack, stack_top_is e)) refl
 
-  pub differ_comes : Enters (quick e) at_differ_test 9 b (now h) → low % 16 ≡ 0 → h.spent ≡ 86
+  pub differ_comes : Enters (quick e) AT_DIFFER_TEST 9 b (now h) → low % 16 ≡ 0 → h.spent ≡ 86
       → RunsBlock (quick e) (calm_pieces (quick e)) (OfArith DifferTest) b h
   differ_comes o n spent =
       skips DifferTest 3 o.entered y_x _ _ (ap not (y_test o.entered)) (rw (o.digit, n) refl) (rw (o.digit, n) refl) (omega arith) 96
@@ -133,27 +133,27 @@ module _ (e : Edition) (b : Machine) (h : Since) (f : FitsMachine b) where
   n_test : (l m : ArithBlock) (w : ℕ) {a d : ℕ} → (o : Enters (quick e) a d b (now h)) → h.spent + 2 * moves (OfArith l) ≡ 86
       → ((low % 16 ≡ 0 → ⊥) → stop_of e (now h) ≡ Some Unknown) → ((low % 16 ≡ 0 → ⊥) → to_stop (quick e) (now h) ≡ 112) → ((h' : Since) → h'.spent ≡ 86
       → Within ((arith_data m).time (quick e) (now h)) h')
-      → ((c : Machine) (sets : List Keys) → Enters (quick e) w d c (now h) × (low % 16 ≡ 0) → (arith_data m).at (quick e) c (now h) sets) → (value (word_of w) == at_halt) ≡ false
+      → ((c : Machine) (sets : List Keys) → Enters (quick e) w d c (now h) × (low % 16 ≡ 0) → (arith_data m).at (quick e) c (now h) sets) → (value (word_of w) == AT_HALT) ≡ false
       → AllGood (code (quick e)) (calm_top e) (moves (OfArith l)) (entered e a high low b)
       → quicks (code (quick e)) (moves (OfArith l)) (entered e a high low b)
-      ≡ looked e high low b (bit_and low 15) (cond (not (bit_and low 15 == 0)) (word_of at_unknown81) (word_of w))
+      ≡ looked e high low b (bit_and low 15) (cond (not (bit_and low 15 == 0)) (word_of AT_UNKNOWN81) (word_of w))
       → RunsBlock (quick e) (calm_pieces (quick e)) (OfArith l) b h
   n_test l m w o spent unknown outside time at calm good is =
-      branch (OfArith l) o.entered (looked e high low b (bit_and low 15)) (not (bit_and low 15 == 0)) at_unknown81 w good is
-      (λ k h' g. to_arith (quick e) g _ refl Unknown81 (looks (bit_and low 15) at_unknown81 o.entered, unknown (n_other k))
+      branch (OfArith l) o.entered (looked e high low b (bit_and low 15)) (not (bit_and low 15 == 0)) AT_UNKNOWN81 w good is
+      (λ k h' g. to_arith (quick e) g _ refl Unknown81 (looks (bit_and low 15) AT_UNKNOWN81 o.entered, unknown (n_other k))
       (omega (arith, spent, g.spent, outside (n_other k))))
       (λ k h' g. to_arith (quick e) g _ calm m (at _ _ (record { entered = looks (bit_and low 15) w o.entered; digit = o.digit }, n_zero k))
       (time h' (omega (arith, spent, g.spent))))
 
-  pub skip_same_comes : Enters (quick e) at_skip_same 5 b (now h) → h.spent ≡ 80 → RunsBlock (quick e) (calm_pieces (quick e)) (OfArith SkipSame) b h
+  pub skip_same_comes : Enters (quick e) AT_SKIP_SAME 5 b (now h) → h.spent ≡ 80 → RunsBlock (quick e) (calm_pieces (quick e)) (OfArith SkipSame) b h
   skip_same_comes o spent =
-      n_test SkipSame SameTest at_skip_same_test o (omega (arith, spent)) (λ d. rw (o.entered.inside, o.digit, ne_eqb (low % 16) 0 d) refl)
+      n_test SkipSame SameTest AT_SKIP_SAME_TEST o (omega (arith, spent)) (λ d. rw (o.entered.inside, o.digit, ne_eqb (low % 16) 0 d) refl)
       (λ d. rw (o.entered.inside, o.digit, ne_eqb (low % 16) 0 d, o.digit) refl)
       (λ h' t. t) (λ c sets z. z) refl (omega arith) refl
 
-  pub skip_differ_comes : Enters (quick e) at_skip_differ 9 b (now h) → h.spent ≡ 80 → RunsBlock (quick e) (calm_pieces (quick e)) (OfArith SkipDiffer) b h
+  pub skip_differ_comes : Enters (quick e) AT_SKIP_DIFFER 9 b (now h) → h.spent ≡ 80 → RunsBlock (quick e) (calm_pieces (quick e)) (OfArith SkipDiffer) b h
   skip_differ_comes o spent =
-      n_test SkipDiffer DifferTest at_differ_test o (omega (arith, spent)) (λ d. rw (o.entered.inside, o.digit, ne_eqb (low % 16) 0 d) refl)
+      n_test SkipDiffer DifferTest AT_DIFFER_TEST o (omega (arith, spent)) (λ d. rw (o.entered.inside, o.digit, ne_eqb (low % 16) 0 d) refl)
       (λ d. rw (o.entered.inside, o.digit, ne_eqb (low % 16) 0 d, o.digit) refl)
       (λ h' t. t) (λ c sets z. z) refl (omega arith) refl
 
@@ -167,14 +167,14 @@ module _ (e : Edition) (b : Machine) (h : Since) (f : FitsMachine b) where
   no_skip_comes (suc (suc (suc zero))) o l spent = ending (OfArith (NoSkip 3)) o spent _ (omega arith) refl o.entered.holds refl refl
   no_skip_comes (suc (suc (suc (suc i)))) o l spent = absurd (omega (arith, l))
 
-  pub skip_comes : Ending (quick e) at_skip (skip_if true (now h)) b (now h) → h.spent + 6 ≡ to_dispatch (quick e) (now h)
+  pub skip_comes : Ending (quick e) AT_SKIP (skip_if true (now h)) b (now h) → h.spent + 6 ≡ to_dispatch (quick e) (now h)
       → RunsBlock (quick e) (calm_pieces (quick e)) (OfArith Skip) b h
   skip_comes o spent = ending (OfArith Skip) o spent _ (omega arith) refl (pc_set o.entered.holds (up (up b.regs.r.r5)) ((now h).pc + 4) two_on) refl refl
     where
       two_on : value (up (up b.regs.r.r5)) ≡ (now h).pc + 4
       two_on = omega (arith, pc_is o.entered.holds, is_inside e (now h) o.entered.inside, memory_end_is e, page_fits e, f.regs.r.r5.hi, f.regs.r.r5.lo)
 
-  pub unknown81_comes : Entered (quick e) at_unknown81 b (now h) → stop_of e (now h) ≡ Some Unknown → h.spent + 26 ≡ to_stop (quick e) (now h)
+  pub unknown81_comes : Entered (quick e) AT_UNKNOWN81 b (now h) → stop_of e (now h) ≡ Some Unknown → h.spent + 26 ≡ to_stop (quick e) (now h)
       → RunsBlock (quick e) (calm_pieces (quick e)) (OfArith Unknown81) b h
   unknown81_comes o stop spent =
       routine (OfArith Unknown81) o _ (omega arith) refl

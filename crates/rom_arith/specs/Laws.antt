@@ -6,7 +6,7 @@ use Rattle.rom_rows.specs.Rom.{program_of}
 use Rattle.rom_rows.specs.ArithBlocks.{ArithBlock}
 use Rattle.rom_rows.specs.Table.{BlockRows}
 use Rattle.rom_rows.specs.Table.Block.{OfArith}
-use Rattle.rom_rows.specs.Addresses.{RunsAt, Covers}
+use Rattle.rom_rows.specs.Addresses.{RunsAt, AllInBlocks}
 
 -- every main move keeps the rows of these instructions
 abbrev pub ArithRows : (Edition → List ℕ) → Type 0
@@ -18,4 +18,4 @@ ArithAddresses rom = (e : Edition) (l : ArithBlock) → RunsAt (program_of e (ro
 
 -- and each instruction of that code is in some block
 abbrev pub ArithCovers : Type 0
-ArithCovers = Covers Arith
+ArithCovers = AllInBlocks Arith

@@ -7,9 +7,9 @@ use Rattle.rom_law.specs.Runs.{record_after, state_after}
 use Rattle.rom_rows.specs.Rom.{vip}
 use Rattle.rom_run.specs.Laws.{ChangesSoon, EveryInterrupt, EveryState, NoneMissing, Undisturbed, WaitsSoon, WritesSoon}
 use Rattle.rom_run.specs.Running.{Running}
-use Rattle.rom_run.specs.States.{Beginning, Known, MayStart, Unstopped}
+use Rattle.rom_run.specs.States.{Beginning, StateKnown, MayStart, Unstopped}
 use Rattle.rom_run.specs.States.Beginning.{AtReset, AtStart}
-use Rattle.rom_run.specs.States.Known.{InBoot, Runs}
+use Rattle.rom_run.specs.States.StateKnown.{InBoot, Runs}
 use Rattle.rom_run.proofs.Starts.{dispatch_starts}
 use Rattle.rom_run.proofs.States.{its_place}
 use Rattle.rom_board.specs.Frames.{ChangesBetween, KeepsFrames}
@@ -22,7 +22,7 @@ module _ (states : EveryState) (undisturbed : Undisturbed) (waits : WaitsSoon) (
     runs : (i : ℕ) → Unstopped (vip e) script b (suc i) → Running e script (state_after (vip e) script b i) (record_after (vip e) script b i)
     runs i u = go (states e script b (AtStart b may) i u)
       where
-        go : Known e script b i → Running e script (state_after (vip e) script b i) (record_after (vip e) script b i)
+        go : StateKnown e script b i → Running e script (state_after (vip e) script b i) (record_after (vip e) script b i)
         go (InBoot game is few boots) = absurd (not_reset e b game may is)
         go (Runs r) = r
 

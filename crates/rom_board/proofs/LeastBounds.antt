@@ -19,6 +19,7 @@ use Rattle.chip8_lang.specs.Step.KeyInput.{Nothing}
 use Rattle.chip8_lang.specs.Timed.{Next, after_instr, asked_cycles, before_wait, behind_wait, by_stop, check_cycles, cycles, edge_cycles, ended, interrupts, later, next_point, outside_cycles, row_cycles, rows_shown, shown_behind, skip_cycles, stop_cycles, stopped_cycles, timed_run, to_interrupt, unknown_cycles, woken}
 use Rattle.rom_board.specs.LeastBounds.{CanBe, ComesIn, EveryBound, EveryTaken, IsTaken, Line, TakesAt, least, least_clear, line_by, line_of_instr}
 use Rattle.rom_board.specs.LeastBounds.Line.{ClearLine, DrawLine, DecimalLine, StoreLine, FetchLine, OtherLine, StopLine}
+use Rattle.rom_law.proofs.Places.{few_rows}
 
 -- ---- cycles
 
@@ -117,10 +118,6 @@ clear_is : (e : Edition) → least_clear e ≡ 3768 + 1846 + (2 + 24 * rows_of e
 clear_is Usual = refl
 clear_is Tall = refl
 
-rows_few : (e : Edition) → rows_of e ≤ 64
-rows_few Usual = omega arith
-rows_few Tall = omega arith
-
 -- ---- operands
 
 -- X and N are digits
@@ -196,7 +193,7 @@ module _ (e : Edition) (script : List Event) (limit : ℕ) where
       subst (λ i. later (woken (ended t (before_wait e i s))) (behind_wait e i s) ≤ t + least_clear e) is
       (omega (
         arith,
-        waits_by t 102 (2 + 24 * rows_of e) 3768 (omega arith) (omega (arith, rows_few e))
+        waits_by t 102 (2 + 24 * rows_of e) 3768 (omega arith) (omega (arith, few_rows e))
             (d_clear (to_interrupt t) (even_away t can.even) (below_frame t)),
         clear_is e,
       ))

@@ -1,12 +1,12 @@
-pub mod Keeps
-pub mod Ran
+pub mod Moves
+pub mod TickRun
 pub mod Passed
 pub mod Starts
 pub mod Speaking
 pub mod Frames
 pub mod Onward
 pub mod Copied
-pub mod Rest
+pub mod BehindSaved
 pub mod Before
 pub mod Agreeing
 pub mod Joined

@@ -26,9 +26,9 @@ use Rattle.rom_law.specs.Runs.{record_after, state_after, state_at}
 use Rattle.rom_rows.specs.Rom.{image, vip}
 use Rattle.rom_run.specs.Laws.{EveryRun as EveryRunOfRom, EveryState, FromAnyStart}
 use Rattle.rom_run.specs.Running.{Running, Booting}
-use Rattle.rom_run.specs.States.{Known, MayStart, Unstopped}
+use Rattle.rom_run.specs.States.{StateKnown, MayStart, Unstopped}
 use Rattle.rom_run.specs.Timeline.{AreShown, EveryTime as EveryTimeOfRom, EveryTimeBehind as BehindOfRom}
-use Rattle.rom_run.specs.States.Known.{InBoot, Runs as RunsThere}
+use Rattle.rom_run.specs.States.StateKnown.{InBoot, Runs as RunsThere}
 use Rattle.rom_run.proofs.Timeline.{next_late}
 use Rattle.rom_run.proofs.Waits.{sleeps}
 use Rattle.vip_relation.specs.Follows.{FileFits, Fits, Follows, GameFits}
@@ -328,7 +328,7 @@ module _ (run : EveryRun) (start : EveryStart) (may : FileMayStart) where
     boots (Saved file) is fits runs game same o =
         absurd (not_reset v.edition (machine_of (Saved file)) game (may v.edition file fits.bytes fits.accepted) (ap machine_of (sym is) ∙ same))
 
-    known : is_stop (interpreter v) v.board.machine ≡ false → Known v.edition v.board.script (machine_of v.start) v.moves → IsKnown v
+    known : is_stop (interpreter v) v.board.machine ≡ false → StateKnown v.edition v.board.script (machine_of v.start) v.moves → IsKnown v
     known runs (InBoot game same few o) = boots v.start refl f.fits runs game same o
     known runs (RunsThere r) =
         Runs runs (

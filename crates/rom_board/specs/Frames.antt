@@ -9,7 +9,7 @@ use Rattle.rom_law.specs.Program.{Program}
 use Rattle.rom_law.specs.Runs.{state_after, record_after}
 use Rattle.rom_run.specs.Display.{AtDisplay, Changes, Display, SameInterval, WritesScreen}
 use Rattle.rom_run.specs.Running.{Showing}
-use Rattle.rom_run.specs.States.{InterruptedThere, IsInterruptCycle, Meets, Unstopped}
+use Rattle.rom_run.specs.States.{InterruptedThere, IsInterruptCycle, ReachesCycle, Unstopped}
 use Rattle.rom_run.specs.Time.{most_changing, since_return}
 
 module _ (x : Program) (script : List KeyEvent) where
@@ -33,6 +33,6 @@ module _ (x : Program) (script : List KeyEvent) where
   pub record KeepsFrames (first : Machine) : Type 0 where
     pub there : (i : ℕ) → Unstopped x script first (suc i) → InterruptedThere (state_after x script first i)
     pub none_missing : (i m : ℕ) → Unstopped x script first i → first.cycle ≤ interrupt_at m → interrupt_at m ≤ (state_after x script first i).cycle
-        → Meets x script first i (interrupt_at m)
+        → ReachesCycle x script first i (interrupt_at m)
     pub between : (i : ℕ) → Unstopped x script first (suc i) → is_dispatch x.interpreter (state_after x script first i) ≡ true
         → ChangesBetween (state_after x script first i)

@@ -1,5 +1,5 @@
 -- What a run of the interrupt routine makes of a board.
-use Rattle.std.specs.Prelude.{◌≡◌, ℕ, zero, suc, ◌*◌, ◌/◌}
+use Rattle.std.specs.Prelude.{◌≡◌, ℕ, zero, suc, ◌+◌, ◌/◌}
 use Rattle.machine.specs.Board.{case_of}
 use Rattle.machine.specs.Board.Case.{Interrupt}
 use Rattle.machine.specs.Pictures.{frame, interrupt_at}
@@ -10,7 +10,7 @@ use Rattle.rom_law.specs.Rows.{Since, after_tick}
 use Rattle.rom_law.specs.Runs.{Moves}
 use Rattle.rom_rows.specs.Rom.{vip}
 use Rattle.rom_run.specs.Running.{Running}
-use Rattle.rom_timer.specs.Routine.{routine_moves}
+use Rattle.rom_timer.specs.Routine.{routine_moves, routine_cycles}
 use Rattle.rom_timer.specs.Scan.{Scans}
 use Rattle.vip_board.specs.Moves.{moved}
 use Rattle.vip_board.specs.Seen.{Seen, held_by}
@@ -21,9 +21,9 @@ unfoldable pub moved_times : ℕ → Seen → Seen
 moved_times zero b = b
 moved_times (suc n) b = moved (moved_times n b)
 
--- the most machine cycles that as many moves take as the routine has, three a move
-abbrev pub most_tick_cycles : ℕ
-most_tick_cycles = 3 * routine_moves
+-- the board behind a run of the routine
+abbrev pub ticked : Seen → Seen
+ticked b = moved_times routine_moves b
 
 -- the board runs the interpreter, and its next move is an interrupt
 abbrev pub StartsTick : Edition → Since → Seen → Type 0
@@ -43,3 +43,13 @@ frame_of b = b.machine.cycle / frame
 pub record Scanned (e : Edition) (b : Seen) : Type 0 where
   pub interrupt : b.machine.cycle ≡ interrupt_at (frame_of b)
   pub scans : Scans e b.rom (frame_of b) b.machine (held_by b)
+
+-- from each interrupt of a board that runs the interpreter
+abbrev pub TakesTick : Type 0
+TakesTick = (e : Edition) (h : Since) (b : Seen) → StartsTick e h b → (ticked b).machine.cycle ≡ b.machine.cycle + routine_cycles
+
+abbrev pub MakesTick : Type 0
+MakesTick = (e : Edition) (h : Since) (b : Seen) → StartsTick e h b → MadeTick e h b (ticked b)
+
+abbrev pub ScansScreen : Type 0
+ScansScreen = (e : Edition) (h : Since) (b : Seen) → StartsTick e h b → Scanned e b

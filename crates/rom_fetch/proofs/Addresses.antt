@@ -4,7 +4,7 @@ use Rattle.std.proofs.lemmas.Bool.{agree_below_at}
 use Rattle.machine.specs.Bank.{word_of}
 use Rattle.machine.specs.Board.{Machine}
 use Rattle.chip8_lang.specs.declared.view.Edition.{Edition}
-use Rattle.chip8_image.specs.Labels.{at_outside, at_fetch, at_upper, at_inside, at_stop, at_stopped, at_unknown83, at_leave81}
+use Rattle.chip8_image.specs.declared.image.labels.TheConstants.{AT_OUTSIDE, AT_FETCH, AT_UPPER, AT_INSIDE, AT_STOP, AT_STOPPED, AT_UNKNOWN83, AT_LEAVE81}
 use Rattle.chip8_image.specs.declared.parts.Part.TheVariants.{Fetch as IsFetch}
 use Rattle.rom_law.specs.Program.{code}
 use Rattle.rom_law.specs.Rows.{Since}
@@ -21,10 +21,10 @@ use Rattle.rom_fetch.proofs.Law.{fetch_block}
 use Rattle.rom_fetch.specs.Code.{fetch_rom}
 
 fetch_follows : (e : Edition) (l : FetchBlock) (b : Machine) (h : Since) → Head (quick e) (OfFetch l) b h → Follows (quick e) (OfFetch l) b
-fetch_follows e Fetch b h o = record { same = on_4 (word_of at_fetch) b; is = is_on_4 o.0; follows = refl }
-fetch_follows e Upper b h o = record { same = on_4 (word_of at_upper) b; is = is_on_4 o.0.0; follows = refl }
-fetch_follows e Inside b h o = record { same = on_4 (word_of at_inside) b; is = is_on_4 o.0.0; follows = refl }
-fetch_follows e Outside b h o = record { same = on_4 (word_of at_outside) b; is = is_on_4 o.0.0; follows = refl }
+fetch_follows e Fetch b h o = record { same = on_4 (word_of AT_FETCH) b; is = is_on_4 o.0; follows = refl }
+fetch_follows e Upper b h o = record { same = on_4 (word_of AT_UPPER) b; is = is_on_4 o.0.0; follows = refl }
+fetch_follows e Inside b h o = record { same = on_4 (word_of AT_INSIDE) b; is = is_on_4 o.0.0; follows = refl }
+fetch_follows e Outside b h o = record { same = on_4 (word_of AT_OUTSIDE) b; is = is_on_4 o.0.0; follows = refl }
 fetch_follows e (Misc i) b h o =
     record {
       same = on_3 (slice_index misc_labels i) b;
@@ -32,16 +32,16 @@ fetch_follows e (Misc i) b h o =
       follows = agree_below_at (λ j. follows (code (quick e)) (addresses_in (fetch_data (Misc j))) 3 (on_3 (slice_index misc_labels j) b))
           (λ j. true) 9 i refl o.0.2;
     }
-fetch_follows e Unknown83 b h o = record { same = on_3 at_unknown83 b; is = is_on_3 at_unknown83 b o.0.0.entered.p o.0.0.entered.r3; follows = refl }
+fetch_follows e Unknown83 b h o = record { same = on_3 AT_UNKNOWN83 b; is = is_on_3 AT_UNKNOWN83 b o.0.0.entered.p o.0.0.entered.r3; follows = refl }
 fetch_follows e (Leave i) b h o =
     record {
-      same = on_3 (at_leave81 + 0x100 * i) b;
-      is = is_on_3 (at_leave81 + 0x100 * i) b o.0.0.p o.0.0.r3;
-      follows = agree_below_at (λ j. follows (code (quick e)) (addresses_in (fetch_data (Leave j))) 3 (on_3 (at_leave81 + 0x100 * j) b))
+      same = on_3 (AT_LEAVE81 + 0x100 * i) b;
+      is = is_on_3 (AT_LEAVE81 + 0x100 * i) b o.0.0.p o.0.0.r3;
+      follows = agree_below_at (λ j. follows (code (quick e)) (addresses_in (fetch_data (Leave j))) 3 (on_3 (AT_LEAVE81 + 0x100 * j) b))
           (λ j. true) 4 i refl o.0.1;
     }
-fetch_follows e Stop b h o = record { same = on_3 at_stop b; is = is_on_3 at_stop b o.0.p o.0.r3; follows = refl }
-fetch_follows e Stopped b h o = record { same = on_3 at_stopped b; is = is_on_3 at_stopped b o.0.p o.0.r3; follows = refl }
+fetch_follows e Stop b h o = record { same = on_3 AT_STOP b; is = is_on_3 AT_STOP b o.0.p o.0.r3; follows = refl }
+fetch_follows e Stopped b h o = record { same = on_3 AT_STOPPED b; is = is_on_3 AT_STOPPED b o.0.p o.0.r3; follows = refl }
 
 pub addresses : FetchAddresses fetch_rom
 addresses e l = runs_at e (both_is e) (both_fits e) (OfFetch l) (fetch_block e l) (fetch_follows e l)

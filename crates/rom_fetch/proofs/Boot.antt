@@ -1,21 +1,19 @@
 -- Boot, from reset to the first dispatch.
-use Rattle.std.proofs.Common.{◌≡◌, ℕ, ◌/◌, ◌<◌, ◌≤◌, refl, sym, ap, subst, true, false, List, length}
+use Rattle.std.proofs.Common.{◌≡◌, ℕ, ◌<◌, ◌≤◌, refl, sym, ap, subst, true, false, List, length, arith}
 use Rattle.machine.specs.Bank.{word, word_of, zeros}
 use Rattle.machine.specs.Memory.{read, written}
 use Rattle.machine.specs.Board.{Machine, start, after_reset}
 use Rattle.machine.specs.Keys.{Keys}
 use Rattle.machine.specs.Run.{after_moves}
 use Rattle.chip8_lang.specs.declared.view.Edition.{Edition}
-use Rattle.chip8_lang.specs.declared.view.Edition.TheVariants.{Usual, Tall}
-use Rattle.chip8_lang.specs.Editions.{screen_start}
 use Rattle.chip8_lang.specs.State.{first, memory_size}
-use Rattle.chip8_image.specs.Labels.{at_entry, at_fetch}
+use Rattle.chip8_image.specs.declared.image.labels.TheConstants.{AT_ENTRY, AT_FETCH}
 use Rattle.rom_law.specs.Program.{Dispatches}
 use Rattle.rom_law.proofs.First.{first_lies}
 use Rattle.rom_law.proofs.Boots.{is_quiet, Quiet, quiet_moves}
 use Rattle.rom_rows.specs.Rom.{program_of}
 use Rattle.rom_rows.specs.Heads.{by_edition, page_of}
-use Rattle.rom_rows.proofs.Bytes.{stack_top_is}
+use Rattle.rom_rows.proofs.Bytes.{stack_top_is, screen_is, screen_page_is}
 use Rattle.rom_fetch.proofs.Rom.{both, both_is, quick}
 use Rattle.rom_fetch.specs.Laws.{boot_moves, EveryBoot}
 use Rattle.rom_fetch.specs.Code.{fetch_rom}
@@ -33,10 +31,10 @@ module _ (e : Edition) (held : ℕ → Keys) (ram : List ℕ) where
           r =
               record zeros {
                 r0 = word 0 7;
-                r1 = word_of at_entry;
+                r1 = word_of AT_ENTRY;
                 r2 = word (page_of e) 0xcf;
                 r3 = word 0x80 0x27;
-                r4 = word_of at_fetch;
+                r4 = word_of AT_FETCH;
                 r5 = word 2 0;
                 rb = word (by_edition e 15 14) 0;
               };
@@ -77,15 +75,11 @@ booted_stands e held game room =
             (sym (stack_top_is e)) refl refl refl refl refl refl refl;
         on = refl;
         entry = refl;
-        page = page e;
+        page = omega (arith, screen_page_is e, screen_is e);
       };
       p = refl;
       r4 = refl;
     }
-  where
-    page : (e : Edition) → by_edition e 15 14 ≡ screen_start e / 256
-    page Usual = refl
-    page Tall = refl
 
 -- the law over the joined bytes, and over the image
 abbrev BootBy : Edition → List ℕ → (ℕ → Keys) → List ℕ → Type 0

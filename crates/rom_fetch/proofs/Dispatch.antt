@@ -9,7 +9,7 @@ use Rattle.machine.specs.Board.{Machine}
 use Rattle.machine.specs.Ranges.{FitsMachine}
 use Rattle.chip8_lang.specs.declared.view.Edition.{Edition}
 use Rattle.chip8_lang.specs.State.{is_fetchable}
-use Rattle.chip8_image.specs.Labels.{at_inside, at_table, at_halt, at_system, at_jump, at_call, at_skip_eq, at_skip_ne, at_skip_same, at_load, at_add, at_arith, at_skip_differ, at_index, at_jump_plus, at_random, at_draw, at_key_skip, at_misc}
+use Rattle.chip8_image.specs.declared.image.labels.TheConstants.{AT_INSIDE, AT_TABLE, AT_HALT, AT_SYSTEM, AT_JUMP, AT_CALL, AT_SKIP_EQ, AT_SKIP_NE, AT_SKIP_SAME, AT_LOAD, AT_ADD, AT_ARITH, AT_SKIP_DIFFER, AT_INDEX, AT_JUMP_PLUS, AT_RANDOM, AT_DRAW, AT_KEY_SKIP, AT_MISC}
 use Rattle.rom_law.specs.Code.{is_event}
 use Rattle.rom_law.proofs.Moves.{quicks, Reaches, reaches_in, reaches_from, rom_at, read_rom}
 use Rattle.rom_law.specs.Program.{code}
@@ -37,13 +37,13 @@ use Rattle.rom_fetch.proofs.Rom.{both, quick}
 -- the routines by the opcode's first digit
 abbrev routines : List ℕ
 routines =
-    at_system ∷ at_jump ∷ at_call ∷ at_skip_eq ∷ at_skip_ne ∷ at_skip_same ∷ at_load ∷ at_add ∷ at_arith ∷ at_skip_differ ∷ at_index ∷ at_jump_plus
-    ∷ at_random ∷ at_draw ∷ at_key_skip ∷ at_misc ∷ []
+    AT_SYSTEM ∷ AT_JUMP ∷ AT_CALL ∷ AT_SKIP_EQ ∷ AT_SKIP_NE ∷ AT_SKIP_SAME ∷ AT_LOAD ∷ AT_ADD ∷ AT_ARITH ∷ AT_SKIP_DIFFER ∷ AT_INDEX ∷ AT_JUMP_PLUS
+    ∷ AT_RANDOM ∷ AT_DRAW ∷ AT_KEY_SKIP ∷ AT_MISC ∷ []
 
 module _ (e : Edition) where
   -- the address of the routine of a first digit, in the table
   abbrev routine : ℕ → Word
-  routine d = word (rom_at (both e) (at_table + 2 * d + 0)) (rom_at (both e) (at_table + 2 * d + 1))
+  routine d = word (rom_at (both e) (AT_TABLE + 2 * d + 0)) (rom_at (both e) (AT_TABLE + 2 * d + 1))
 
   table_is : (d : ℕ) → d < 16 → routine d ≡ word_of (slice_index routines d)
   table_is d l = ap₂ word
@@ -51,12 +51,12 @@ module _ (e : Edition) where
       (eqb-true _ _ (agree_below_at (λ k. (routine k).lo == slice_index routines k % 256) (λ k. true) 16 d refl l))
 
 -- no routine is the stop
-no_halt : (d : ℕ) → d < 16 → (value (word_of (slice_index routines d)) == at_halt) ≡ false
-no_halt d l = agree_below_at (λ k. value (word_of (slice_index routines k)) == at_halt) (λ k. false) 16 d refl l
+no_halt : (d : ℕ) → d < 16 → (value (word_of (slice_index routines d)) == AT_HALT) ≡ false
+no_halt d l = agree_below_at (λ k. value (word_of (slice_index routines k)) == AT_HALT) (λ k. false) 16 d refl l
 
 -- ---- the block
 
-module _ (e : Edition) (b : Machine) (h : Since) (f : FitsMachine b) (o : Fetching (quick e) at_inside b (now h)) (ins : is_fetchable e (now h) ≡ true) (spent : h.spent ≡ 16) where
+module _ (e : Edition) (b : Machine) (h : Since) (f : FitsMachine b) (o : Fetching (quick e) AT_INSIDE b (now h)) (ins : is_fetchable e (now h) ≡ true) (spent : h.spent ≡ 16) where
   abbrev high : ℕ
   high = high_byte (now h)
 
@@ -87,7 +87,7 @@ module _ (e : Edition) (b : Machine) (h : Since) (f : FitsMachine b) (o : Fetchi
   low_fits = memory_fits o.holds f.ram ((now h).pc + 1) (omega (arith, is_inside e (now h) ins)) (omega (arith, is_inside e (now h) ins))
 
   entered : Machine
-  entered = quicks (code (quick e)) 32 (on_4 (word_of at_inside) b)
+  entered = quicks (code (quick e)) 32 (on_4 (word_of AT_INSIDE) b)
 
   reaches : Reaches (code (quick e)) (calm_top e) 32 b entered
   unfolding entered
@@ -107,10 +107,10 @@ module _ (e : Edition) (b : Machine) (h : Since) (f : FitsMachine b) (o : Fetchi
   digit_fits : high / 16 < 16
   digit_fits = omega (arith, high_fits)
 
-  from_table : (a k : ℕ) → a ≡ at_table + 2 * (high / 16) + k → k < 2 → read (both e) b.latch b.ram a ≡ rom_at (both e) (at_table + 2 * (high / 16) + k)
+  from_table : (a k : ℕ) → a ≡ AT_TABLE + 2 * (high / 16) + k → k < 2 → read (both e) b.latch b.ram a ≡ rom_at (both e) (AT_TABLE + 2 * (high / 16) + k)
   from_table a k at small =
       ap (read (both e) b.latch b.ram) at
-      ∙ read_rom (both e) b.latch b.ram (at_table + 2 * (high / 16) + k) (omega arith) (omega (arith, high_fits, small))
+      ∙ read_rom (both e) b.latch b.ram (AT_TABLE + 2 * (high / 16) + k) (omega arith) (omega (arith, high_fits, small))
 
   r3_is : entered.regs.r.r3 ≡ routine e (high / 16)
   unfolding entered offset

@@ -7,7 +7,7 @@ use Rattle.machine.specs.Board.{Machine}
 use Rattle.machine.specs.Ranges.{FitsMachine}
 use Rattle.chip8_lang.specs.declared.view.Edition.{Edition}
 use Rattle.chip8_lang.specs.Editions.{memory_end}
-use Rattle.chip8_image.specs.Labels.{at_outside, at_fetch, at_upper, at_inside}
+use Rattle.chip8_image.specs.declared.image.labels.TheConstants.{AT_OUTSIDE, AT_FETCH, AT_UPPER, AT_INSIDE}
 use Rattle.rom_law.proofs.Moves.{quicks, Reaches, reaches_in, reaches_from}
 use Rattle.rom_law.specs.Program.{code}
 use Rattle.rom_law.specs.Rows.{Since, now}
@@ -32,19 +32,19 @@ passed n a c e = rw e refl
 
 -- ---- pc is 0200 at least
 
-module _ (e : Edition) (b : Machine) (h : Since) (f : FitsMachine b) (o : Fetching (quick e) at_fetch b (now h)) (spent : h.spent ≡ 0) where
+module _ (e : Edition) (b : Machine) (h : Since) (f : FitsMachine b) (o : Fetching (quick e) AT_FETCH b (now h)) (spent : h.spent ≡ 0) where
   pc : value b.regs.r.r5 ≡ (now h).pc
   pc = pc_is o.holds
 
   end : Word → Machine
-  end a = on_4 a (quicks (code (quick e)) 3 (on_4 (word_of at_fetch) b))
+  end a = on_4 a (quicks (code (quick e)) 3 (on_4 (word_of AT_FETCH) b))
 
-  reaches : (a : Word) → cond (not ((b.regs.r.r5.hi + 256 - 2) / 256 == 1)) (word_of at_outside) (word_of at_upper) ≡ a
+  reaches : (a : Word) → cond (not ((b.regs.r.r5.hi + 256 - 2) / 256 == 1)) (word_of AT_OUTSIDE) (word_of AT_UPPER) ≡ a
       → Reaches (code (quick e)) (calm_top e) 3 b (end a)
   unfolding end
   reaches a i =
       reaches_from (code (quick e)) (calm_top e) 3 b _ _ (is_on_4 o)
-      (reaches_in (code (quick e)) (calm_top e) 3 _ _ (omega arith) (λ j. on_4 (i j) (quicks (code (quick e)) 3 (on_4 (word_of at_fetch) b))))
+      (reaches_in (code (quick e)) (calm_top e) 3 _ _ (omega arith) (λ j. on_4 (i j) (quicks (code (quick e)) 3 (on_4 (word_of AT_FETCH) b))))
 
   fetching : (a : ℕ) → Fetching (quick e) a (end (word_of a)) (now h)
   unfolding end
@@ -59,24 +59,24 @@ module _ (e : Edition) (b : Machine) (h : Since) (f : FitsMachine b) (o : Fetchi
         runs = ready o.holds;
         awake = o.holds.awake;
         some = omega arith;
-        end = end (word_of at_outside);
-        reaches = reaches (word_of at_outside) (taken _ (word_of at_outside) (word_of at_upper) (omega (arith, l, pc, f.regs.r.r5.lo, f.regs.r.r5.hi)));
+        end = end (word_of AT_OUTSIDE);
+        reaches = reaches (word_of AT_OUTSIDE) (taken _ (word_of AT_OUTSIDE) (word_of AT_UPPER) (omega (arith, l, pc, f.regs.r.r5.lo, f.regs.r.r5.hi)));
         ends =
-            λ h' g. to_fetch (quick e) g (end (word_of at_outside)) refl Outside (fetching at_outside, rw (lt-leb 0x200 (now h).pc l) refl)
+            λ h' g. to_fetch (quick e) g (end (word_of AT_OUTSIDE)) refl Outside (fetching AT_OUTSIDE, rw (lt-leb 0x200 (now h).pc l) refl)
             (omega (arith, spent, g.spent, stop_low e (now h) l));
       }
       go (inr l) = record {
         runs = ready o.holds;
         awake = o.holds.awake;
         some = omega arith;
-        end = end (word_of at_upper);
-        reaches = reaches (word_of at_upper) (passed _ (word_of at_outside) (word_of at_upper) (omega (arith, l, pc, f.regs.r.r5.lo, f.regs.r.r5.hi)));
-        ends = λ h' g. to_fetch (quick e) g (end (word_of at_upper)) refl Upper (fetching at_upper, l) (omega (arith, spent, g.spent));
+        end = end (word_of AT_UPPER);
+        reaches = reaches (word_of AT_UPPER) (passed _ (word_of AT_OUTSIDE) (word_of AT_UPPER) (omega (arith, l, pc, f.regs.r.r5.lo, f.regs.r.r5.hi)));
+        ends = λ h' g. to_fetch (quick e) g (end (word_of AT_UPPER)) refl Upper (fetching AT_UPPER, l) (omega (arith, spent, g.spent));
       }
 
 -- ---- pc and pc + 1 lie below the end of game memory
 
-module _ (e : Edition) (b : Machine) (h : Since) (f : FitsMachine b) (o : Fetching (quick e) at_upper b (now h)) (low : 0x200 ≤ (now h).pc) (spent : h.spent ≡ 6) where
+module _ (e : Edition) (b : Machine) (h : Since) (f : FitsMachine b) (o : Fetching (quick e) AT_UPPER b (now h)) (low : 0x200 ≤ (now h).pc) (spent : h.spent ≡ 6) where
   pc2 : value b.regs.r.r5 ≡ (now h).pc
   pc2 = pc_is o.holds
 
@@ -85,13 +85,13 @@ module _ (e : Edition) (b : Machine) (h : Since) (f : FitsMachine b) (o : Fetchi
   carry = (page_of e + 256 - b.regs.r.r5.hi - (1 - (158 + 256 - b.regs.r.r5.lo) / 256)) / 256
 
   checked : Word → Machine
-  checked a = on_4 a (quicks (code (quick e)) 5 (on_4 (word_of at_upper) b))
+  checked a = on_4 a (quicks (code (quick e)) 5 (on_4 (word_of AT_UPPER) b))
 
-  check_reaches : (a : Word) → cond (not (carry == 1)) (word_of at_outside) (word_of at_inside) ≡ a → Reaches (code (quick e)) (calm_top e) 5 b (checked a)
+  check_reaches : (a : Word) → cond (not (carry == 1)) (word_of AT_OUTSIDE) (word_of AT_INSIDE) ≡ a → Reaches (code (quick e)) (calm_top e) 5 b (checked a)
   unfolding checked carry
   check_reaches a i =
       reaches_from (code (quick e)) (calm_top e) 5 b _ _ (is_on_4 o)
-      (reaches_in (code (quick e)) (calm_top e) 5 _ _ (omega arith) (λ j. on_4 (i j) (quicks (code (quick e)) 5 (on_4 (word_of at_upper) b))))
+      (reaches_in (code (quick e)) (calm_top e) 5 _ _ (omega arith) (λ j. on_4 (i j) (quicks (code (quick e)) 5 (on_4 (word_of AT_UPPER) b))))
 
   checking : (a : ℕ) → Fetching (quick e) a (checked (word_of a)) (now h)
   unfolding checked
@@ -114,20 +114,20 @@ module _ (e : Edition) (b : Machine) (h : Since) (f : FitsMachine b) (o : Fetchi
         runs = ready o.holds;
         awake = o.holds.awake;
         some = omega arith;
-        end = checked (word_of at_outside);
-        reaches = check_reaches (word_of at_outside) (taken carry (word_of at_outside) (word_of at_inside) (too_high l));
+        end = checked (word_of AT_OUTSIDE);
+        reaches = check_reaches (word_of AT_OUTSIDE) (taken carry (word_of AT_OUTSIDE) (word_of AT_INSIDE) (too_high l));
         ends =
-            λ h' g. to_fetch (quick e) g (checked (word_of at_outside)) refl Outside
-            (checking at_outside, rw (le-leb 0x200 (now h).pc low, lt-leb ((now h).pc + 2) (memory_end e) l) refl)
+            λ h' g. to_fetch (quick e) g (checked (word_of AT_OUTSIDE)) refl Outside
+            (checking AT_OUTSIDE, rw (le-leb 0x200 (now h).pc low, lt-leb ((now h).pc + 2) (memory_end e) l) refl)
             (omega (arith, spent, g.spent, stop_high e (now h) low l));
       }
       go (inr l) = record {
         runs = ready o.holds;
         awake = o.holds.awake;
         some = omega arith;
-        end = checked (word_of at_inside);
-        reaches = check_reaches (word_of at_inside) (passed carry (word_of at_outside) (word_of at_inside) (low_enough l));
+        end = checked (word_of AT_INSIDE);
+        reaches = check_reaches (word_of AT_INSIDE) (passed carry (word_of AT_OUTSIDE) (word_of AT_INSIDE) (low_enough l));
         ends =
-            λ h' g. to_fetch (quick e) g (checked (word_of at_inside)) refl Inside
-            (checking at_inside, rw (le-leb 0x200 (now h).pc low, le-leb ((now h).pc + 2) (memory_end e) l) refl) (omega (arith, spent, g.spent));
+            λ h' g. to_fetch (quick e) g (checked (word_of AT_INSIDE)) refl Inside
+            (checking AT_INSIDE, rw (le-leb 0x200 (now h).pc low, le-leb ((now h).pc + 2) (memory_end e) l) refl) (omega (arith, spent, g.spent));
       }

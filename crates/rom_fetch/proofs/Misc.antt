@@ -8,7 +8,7 @@ use Rattle.machine.specs.Ranges.{FitsMachine}
 use Rattle.chip8_lang.specs.declared.view.Edition.{Edition}
 use Rattle.chip8_lang.specs.declared.view.Stop.TheVariants.{Unknown as UnknownOpcode}
 use Rattle.chip8_lang.specs.Step.{stop_of}
-use Rattle.chip8_image.specs.Labels.{at_misc_0A, at_misc_15, at_misc_18, at_misc_1E, at_misc_29, at_misc_33, at_misc_55, at_misc_65, at_unknown83, at_get_delay, at_wait_key, at_set_delay, at_set_sound, at_add_index, at_digit, at_decimal, at_store, at_restore}
+use Rattle.chip8_image.specs.declared.image.labels.TheConstants.{AT_MISC_0A, AT_MISC_15, AT_MISC_18, AT_MISC_1E, AT_MISC_29, AT_MISC_33, AT_MISC_55, AT_MISC_65, AT_UNKNOWN83, AT_GET_DELAY, AT_WAIT_KEY, AT_SET_DELAY, AT_SET_SOUND, AT_ADD_INDEX, AT_DIGIT, AT_DECIMAL, AT_STORE, AT_RESTORE}
 use Rattle.rom_law.proofs.Moves.{quicks, Reaches, reaches_in, reaches_from}
 use Rattle.rom_law.specs.Program.{code}
 use Rattle.rom_law.specs.Rows.{Since, Grows, Ends, now}
@@ -104,55 +104,55 @@ module _ (e : Edition) (b : Machine) (h : Since) (f : FitsMachine b) where
       → RunsBlock (quick e) (calm_pieces (quick e)) (OfFetch (Misc i)) b h
   unfolding tested
   misc_comes zero l o none spent =
-      test 0 at_get_delay at_misc_0A o (λ w q. reaches_in (code (quick e)) (calm_top e) 3 _ _ (omega arith) (λ j. tested 0x07 (q j)))
-      (λ is h' g. to_timer_place (quick e) g (tested 0x07 (word_of at_get_delay)) refl GetDelay (goes 0x07 o at_get_delay, is) (omega (arith, spent, g.spent)))
-      (λ d h' g. to_fetch (quick e) g (tested 0x07 (word_of at_misc_0A)) refl (Misc 1) (goes 0x07 o at_misc_0A, none_more 0 low none d, omega arith)
+      test 0 AT_GET_DELAY AT_MISC_0A o (λ w q. reaches_in (code (quick e)) (calm_top e) 3 _ _ (omega arith) (λ j. tested 0x07 (q j)))
+      (λ is h' g. to_timer_place (quick e) g (tested 0x07 (word_of AT_GET_DELAY)) refl GetDelay (goes 0x07 o AT_GET_DELAY, is) (omega (arith, spent, g.spent)))
+      (λ d h' g. to_fetch (quick e) g (tested 0x07 (word_of AT_MISC_0A)) refl (Misc 1) (goes 0x07 o AT_MISC_0A, none_more 0 low none d, omega arith)
       (omega (arith, spent, g.spent)))
   misc_comes (suc zero) l o none spent =
-      test 1 at_wait_key at_misc_15 o (λ w q. reaches_in (code (quick e)) (calm_top e) 3 _ _ (omega arith) (λ j. tested 0x0a (q j)))
-      (λ is h' g. to_key (quick e) g (tested 0x0a (word_of at_wait_key)) refl WaitKey (goes 0x0a o at_wait_key, is) (omega (arith, spent, g.spent)))
-      (λ d h' g. to_fetch (quick e) g (tested 0x0a (word_of at_misc_15)) refl (Misc 2) (goes 0x0a o at_misc_15, none_more 1 low none d, omega arith)
+      test 1 AT_WAIT_KEY AT_MISC_15 o (λ w q. reaches_in (code (quick e)) (calm_top e) 3 _ _ (omega arith) (λ j. tested 0x0a (q j)))
+      (λ is h' g. to_key (quick e) g (tested 0x0a (word_of AT_WAIT_KEY)) refl WaitKey (goes 0x0a o AT_WAIT_KEY, is) (omega (arith, spent, g.spent)))
+      (λ d h' g. to_fetch (quick e) g (tested 0x0a (word_of AT_MISC_15)) refl (Misc 2) (goes 0x0a o AT_MISC_15, none_more 1 low none d, omega arith)
       (omega (arith, spent, g.spent)))
   misc_comes (suc (suc zero)) l o none spent =
-      test 2 at_set_delay at_misc_18 o (λ w q. reaches_in (code (quick e)) (calm_top e) 3 _ _ (omega arith) (λ j. tested 0x15 (q j)))
-      (λ is h' g. to_timer (quick e) g (tested 0x15 (word_of at_set_delay)) refl SetDelay (goes 0x15 o at_set_delay, is) (omega (arith, spent, g.spent)))
-      (λ d h' g. to_fetch (quick e) g (tested 0x15 (word_of at_misc_18)) refl (Misc 3) (goes 0x15 o at_misc_18, none_more 2 low none d, omega arith)
+      test 2 AT_SET_DELAY AT_MISC_18 o (λ w q. reaches_in (code (quick e)) (calm_top e) 3 _ _ (omega arith) (λ j. tested 0x15 (q j)))
+      (λ is h' g. to_timer (quick e) g (tested 0x15 (word_of AT_SET_DELAY)) refl SetDelay (goes 0x15 o AT_SET_DELAY, is) (omega (arith, spent, g.spent)))
+      (λ d h' g. to_fetch (quick e) g (tested 0x15 (word_of AT_MISC_18)) refl (Misc 3) (goes 0x15 o AT_MISC_18, none_more 2 low none d, omega arith)
       (omega (arith, spent, g.spent)))
   misc_comes (suc (suc (suc zero))) l o none spent =
-      test 3 at_set_sound at_misc_1E o (λ w q. reaches_in (code (quick e)) (calm_top e) 3 _ _ (omega arith) (λ j. tested 0x18 (q j)))
-      (λ is h' g. to_timer (quick e) g (tested 0x18 (word_of at_set_sound)) refl SetSound (goes 0x18 o at_set_sound, is) (omega (arith, spent, g.spent)))
-      (λ d h' g. to_fetch (quick e) g (tested 0x18 (word_of at_misc_1E)) refl (Misc 4) (goes 0x18 o at_misc_1E, none_more 3 low none d, omega arith)
+      test 3 AT_SET_SOUND AT_MISC_1E o (λ w q. reaches_in (code (quick e)) (calm_top e) 3 _ _ (omega arith) (λ j. tested 0x18 (q j)))
+      (λ is h' g. to_timer (quick e) g (tested 0x18 (word_of AT_SET_SOUND)) refl SetSound (goes 0x18 o AT_SET_SOUND, is) (omega (arith, spent, g.spent)))
+      (λ d h' g. to_fetch (quick e) g (tested 0x18 (word_of AT_MISC_1E)) refl (Misc 4) (goes 0x18 o AT_MISC_1E, none_more 3 low none d, omega arith)
       (omega (arith, spent, g.spent)))
   misc_comes (suc (suc (suc (suc zero)))) l o none spent =
-      test 4 at_add_index at_misc_29 o (λ w q. reaches_in (code (quick e)) (calm_top e) 3 _ _ (omega arith) (λ j. tested 0x1e (q j)))
-      (λ is h' g. to_memory (quick e) g (tested 0x1e (word_of at_add_index)) refl AddIndex (goes 0x1e o at_add_index, is) (omega (arith, spent, g.spent)))
-      (λ d h' g. to_fetch (quick e) g (tested 0x1e (word_of at_misc_29)) refl (Misc 5) (goes 0x1e o at_misc_29, none_more 4 low none d, omega arith)
+      test 4 AT_ADD_INDEX AT_MISC_29 o (λ w q. reaches_in (code (quick e)) (calm_top e) 3 _ _ (omega arith) (λ j. tested 0x1e (q j)))
+      (λ is h' g. to_memory (quick e) g (tested 0x1e (word_of AT_ADD_INDEX)) refl AddIndex (goes 0x1e o AT_ADD_INDEX, is) (omega (arith, spent, g.spent)))
+      (λ d h' g. to_fetch (quick e) g (tested 0x1e (word_of AT_MISC_29)) refl (Misc 5) (goes 0x1e o AT_MISC_29, none_more 4 low none d, omega arith)
       (omega (arith, spent, g.spent)))
   misc_comes (suc (suc (suc (suc (suc zero))))) l o none spent =
-      test 5 at_digit at_misc_33 o (λ w q. reaches_in (code (quick e)) (calm_top e) 3 _ _ (omega arith) (λ j. tested 0x29 (q j)))
-      (λ is h' g. to_memory (quick e) g (tested 0x29 (word_of at_digit)) refl Digit (goes 0x29 o at_digit, is) (omega (arith, spent, g.spent)))
-      (λ d h' g. to_fetch (quick e) g (tested 0x29 (word_of at_misc_33)) refl (Misc 6) (goes 0x29 o at_misc_33, none_more 5 low none d, omega arith)
+      test 5 AT_DIGIT AT_MISC_33 o (λ w q. reaches_in (code (quick e)) (calm_top e) 3 _ _ (omega arith) (λ j. tested 0x29 (q j)))
+      (λ is h' g. to_memory (quick e) g (tested 0x29 (word_of AT_DIGIT)) refl Digit (goes 0x29 o AT_DIGIT, is) (omega (arith, spent, g.spent)))
+      (λ d h' g. to_fetch (quick e) g (tested 0x29 (word_of AT_MISC_33)) refl (Misc 6) (goes 0x29 o AT_MISC_33, none_more 5 low none d, omega arith)
       (omega (arith, spent, g.spent)))
   misc_comes (suc (suc (suc (suc (suc (suc zero)))))) l o none spent =
-      test 6 at_decimal at_misc_55 o (λ w q. reaches_in (code (quick e)) (calm_top e) 3 _ _ (omega arith) (λ j. tested 0x33 (q j)))
-      (λ is h' g. to_memory (quick e) g (tested 0x33 (word_of at_decimal)) refl Decimal (goes 0x33 o at_decimal, is) (omega (arith, spent, g.spent)))
-      (λ d h' g. to_fetch (quick e) g (tested 0x33 (word_of at_misc_55)) refl (Misc 7) (goes 0x33 o at_misc_55, none_more 6 low none d, omega arith)
+      test 6 AT_DECIMAL AT_MISC_55 o (λ w q. reaches_in (code (quick e)) (calm_top e) 3 _ _ (omega arith) (λ j. tested 0x33 (q j)))
+      (λ is h' g. to_memory (quick e) g (tested 0x33 (word_of AT_DECIMAL)) refl Decimal (goes 0x33 o AT_DECIMAL, is) (omega (arith, spent, g.spent)))
+      (λ d h' g. to_fetch (quick e) g (tested 0x33 (word_of AT_MISC_55)) refl (Misc 7) (goes 0x33 o AT_MISC_55, none_more 6 low none d, omega arith)
       (omega (arith, spent, g.spent)))
   misc_comes (suc (suc (suc (suc (suc (suc (suc zero))))))) l o none spent =
-      test 7 at_store at_misc_65 o (λ w q. reaches_in (code (quick e)) (calm_top e) 3 _ _ (omega arith) (λ j. tested 0x55 (q j)))
-      (λ is h' g. to_memory (quick e) g (tested 0x55 (word_of at_store)) refl Store (goes 0x55 o at_store, is) (omega (arith, spent, g.spent)))
-      (λ d h' g. to_fetch (quick e) g (tested 0x55 (word_of at_misc_65)) refl (Misc 8) (goes 0x55 o at_misc_65, none_more 7 low none d, omega arith)
+      test 7 AT_STORE AT_MISC_65 o (λ w q. reaches_in (code (quick e)) (calm_top e) 3 _ _ (omega arith) (λ j. tested 0x55 (q j)))
+      (λ is h' g. to_memory (quick e) g (tested 0x55 (word_of AT_STORE)) refl Store (goes 0x55 o AT_STORE, is) (omega (arith, spent, g.spent)))
+      (λ d h' g. to_fetch (quick e) g (tested 0x55 (word_of AT_MISC_65)) refl (Misc 8) (goes 0x55 o AT_MISC_65, none_more 7 low none d, omega arith)
       (omega (arith, spent, g.spent)))
   misc_comes (suc (suc (suc (suc (suc (suc (suc (suc zero)))))))) l o none spent =
-      test 8 at_restore at_unknown83 o (λ w q. reaches_in (code (quick e)) (calm_top e) 3 _ _ (omega arith) (λ j. tested 0x65 (q j)))
-      (λ is h' g. to_memory (quick e) g (tested 0x65 (word_of at_restore)) refl Restore (goes 0x65 o at_restore, is) (omega (arith, spent, g.spent)))
-      (λ d h' g. to_fetch (quick e) g (tested 0x65 (word_of at_unknown83)) refl Unknown83 (goes 0x65 o at_unknown83, none_more 8 low none d)
+      test 8 AT_RESTORE AT_UNKNOWN83 o (λ w q. reaches_in (code (quick e)) (calm_top e) 3 _ _ (omega arith) (λ j. tested 0x65 (q j)))
+      (λ is h' g. to_memory (quick e) g (tested 0x65 (word_of AT_RESTORE)) refl Restore (goes 0x65 o AT_RESTORE, is) (omega (arith, spent, g.spent)))
+      (λ d h' g. to_fetch (quick e) g (tested 0x65 (word_of AT_UNKNOWN83)) refl Unknown83 (goes 0x65 o AT_UNKNOWN83, none_more 8 low none d)
       (omega (arith, spent, g.spent)))
   misc_comes (suc (suc (suc (suc (suc (suc (suc (suc (suc i))))))))) l o none spent = absurd (omega (arith, l))
 
   -- ---- no test was met
 
-  unknown_stop : Enters (quick e) at_unknown83 15 b (now h) → NoneOf 9 low → stop_of e (now h) ≡ Some UnknownOpcode
+  unknown_stop : Enters (quick e) AT_UNKNOWN83 15 b (now h) → NoneOf 9 low → stop_of e (now h) ≡ Some UnknownOpcode
   unknown_stop o none =
       rw (
         o.entered.inside,
@@ -171,7 +171,7 @@ module _ (e : Edition) (b : Machine) (h : Since) (f : FitsMachine b) where
       )
       refl
 
-  unknown_time : Enters (quick e) at_unknown83 15 b (now h) → NoneOf 9 low → to_stop (quick e) (now h) ≡ 160
+  unknown_time : Enters (quick e) AT_UNKNOWN83 15 b (now h) → NoneOf 9 low → to_stop (quick e) (now h) ≡ 160
   unknown_time o none =
       rw (
         o.entered.inside,
@@ -191,16 +191,16 @@ module _ (e : Edition) (b : Machine) (h : Since) (f : FitsMachine b) where
       )
       refl
 
-  pub unknown_comes : Enters (quick e) at_unknown83 15 b (now h) → NoneOf 9 low → h.spent ≡ 134
+  pub unknown_comes : Enters (quick e) AT_UNKNOWN83 15 b (now h) → NoneOf 9 low → h.spent ≡ 134
       → RunsBlock (quick e) (calm_pieces (quick e)) (OfFetch Unknown83) b h
   unknown_comes o none spent = record {
     runs = ready o.entered.holds;
     awake = o.entered.holds.awake;
     some = omega arith;
-    end = quicks (code (quick e)) 2 (entered e at_unknown83 high low b);
+    end = quicks (code (quick e)) 2 (entered e AT_UNKNOWN83 high low b);
     reaches = reaches_from (code (quick e)) (calm_top e) 2 b _ _ (is_entered o.entered) (reaches_in (code (quick e)) (calm_top e) 2 _ _ (omega arith) refl);
     ends =
-        λ h' g. to_fetch (quick e) g (quicks (code (quick e)) 2 (entered e at_unknown83 high low b)) refl (Leave 2)
+        λ h' g. to_fetch (quick e) g (quicks (code (quick e)) 2 (entered e AT_UNKNOWN83 high low b)) refl (Leave 2)
         (record { holds = o.entered.holds; p = refl; r3 = refl; stop = UnknownOpcode; fits = unknown_stop o none; number = refl }, omega arith)
         (omega (arith, spent, g.spent, unknown_time o none));
   }

@@ -7,7 +7,7 @@ use Rattle.machine.specs.Board.{Machine}
 use Rattle.chip8_lang.specs.declared.view.Edition.{Edition}
 use Rattle.chip8_lang.specs.State.{is_fetchable}
 use Rattle.chip8_image.specs.declared.TheConstants.{DISPATCH}
-use Rattle.chip8_image.specs.Labels.{at_fetch, at_upper, at_inside, at_stop, at_stopped, at_unknown83, at_leave81}
+use Rattle.chip8_image.specs.declared.image.labels.TheConstants.{AT_FETCH, AT_UPPER, AT_INSIDE, AT_STOP, AT_STOPPED, AT_UNKNOWN83, AT_LEAVE81}
 use Rattle.rom_law.specs.Code.{Code, Input, moved}
 use Rattle.rom_law.proofs.Moves.{quicks}
 use Rattle.rom_law.specs.Program.{code}
@@ -82,25 +82,25 @@ module _ (e : Edition) {l : FetchBlock} (u : Input) (b : Machine) (h : Since) (r
   inside_then i = ticks_fetchable e r.since.ticks r.since.state ∙ ap (is_fetchable e) (sym r.grows.state) ∙ i
 
 time_by : (e : Edition) (l : FetchBlock) → TimeBy e (both e) l
-time_by e Fetch u b h r i p q = absurd (early e u b h r (on_4 (word_of at_fetch) r.start) 4 (is_on_4 r.head.0) refl (omega (arith, r.inside)) q)
-time_by e Upper u b h r i p q = absurd (early e u b h r (on_4 (word_of at_upper) r.start) 6 (is_on_4 r.head.0.0) refl (omega (arith, r.inside)) q)
+time_by e Fetch u b h r i p q = absurd (early e u b h r (on_4 (word_of AT_FETCH) r.start) 4 (is_on_4 r.head.0) refl (omega (arith, r.inside)) q)
+time_by e Upper u b h r i p q = absurd (early e u b h r (on_4 (word_of AT_UPPER) r.start) 6 (is_on_4 r.head.0.0) refl (omega (arith, r.inside)) q)
 time_by e Inside u b h r i p q = go (cases_eq (suc r.k) 32)
   where
     go : (suc r.k ≡ 32) ⊎ (suc r.k ≡ 32 → ⊥) → (after_main u h).spent ≡ DISPATCH
     go (inl k) = omega (arith, k, r.grows.spent, r.head.1)
-    go (inr d) = absurd (early e u b h r (on_4 (word_of at_inside) r.start) 32 (is_on_4 r.head.0.0) refl (omega (arith, r.inside, d)) q)
+    go (inr d) = absurd (early e u b h r (on_4 (word_of AT_INSIDE) r.start) 32 (is_on_4 r.head.0.0) refl (omega (arith, r.inside, d)) q)
 time_by e Outside u b h r i p q = cc (r.head.0.1, inside_then e u b h r i)
 time_by e (Misc n) u b h r i p q =
     absurd (late e u b h r (on_3 (slice_index misc_labels n) r.start) 3
     (is_on_3 (slice_index misc_labels n) r.start r.head.0.0.entered.p r.head.0.0.entered.r3)
     (agree_below_at (λ j. stays (code (quick e)) 3 3 (on_3 (slice_index misc_labels j) r.start)) (λ j. true) 9 n refl r.head.0.2) r.inside p)
 time_by e Unknown83 u b h r i p q =
-    absurd (late e u b h r (on_3 at_unknown83 r.start) 2 (is_on_3 at_unknown83 r.start r.head.0.0.entered.p r.head.0.0.entered.r3) refl r.inside p)
+    absurd (late e u b h r (on_3 AT_UNKNOWN83 r.start) 2 (is_on_3 AT_UNKNOWN83 r.start r.head.0.0.entered.p r.head.0.0.entered.r3) refl r.inside p)
 time_by e (Leave n) u b h r i p q =
-    absurd (late e u b h r (on_3 (at_leave81 + 0x100 * n) r.start) 3 (is_on_3 (at_leave81 + 0x100 * n) r.start r.head.0.0.p r.head.0.0.r3)
-    (agree_below_at (λ j. stays (code (quick e)) 3 3 (on_3 (at_leave81 + 0x100 * j) r.start)) (λ j. true) 4 n refl r.head.0.1) r.inside p)
-time_by e Stop u b h r i p q = absurd (late e u b h r (on_3 at_stop r.start) 2 (is_on_3 at_stop r.start r.head.0.p r.head.0.r3) refl r.inside p)
-time_by e Stopped u b h r i p q = absurd (late e u b h r (on_3 at_stopped r.start) 6 (is_on_3 at_stopped r.start r.head.0.p r.head.0.r3) refl r.inside p)
+    absurd (late e u b h r (on_3 (AT_LEAVE81 + 0x100 * n) r.start) 3 (is_on_3 (AT_LEAVE81 + 0x100 * n) r.start r.head.0.0.p r.head.0.0.r3)
+    (agree_below_at (λ j. stays (code (quick e)) 3 3 (on_3 (AT_LEAVE81 + 0x100 * j) r.start)) (λ j. true) 4 n refl r.head.0.1) r.inside p)
+time_by e Stop u b h r i p q = absurd (late e u b h r (on_3 AT_STOP r.start) 2 (is_on_3 AT_STOP r.start r.head.0.p r.head.0.r3) refl r.inside p)
+time_by e Stopped u b h r i p q = absurd (late e u b h r (on_3 AT_STOPPED r.start) 6 (is_on_3 AT_STOPPED r.start r.head.0.p r.head.0.r3) refl r.inside p)
 
 pub dispatch_time : DispatchTime fetch_rom
 dispatch_time e l = subst (λ rom. TimeBy e rom l) (both_is e) (time_by e l)

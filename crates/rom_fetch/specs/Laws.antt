@@ -15,7 +15,7 @@ use Rattle.rom_rows.specs.Rom.{interpreter_of, program_of}
 use Rattle.rom_rows.specs.FetchBlocks.{FetchBlock}
 use Rattle.rom_rows.specs.Table.{pieces, BlockRows}
 use Rattle.rom_rows.specs.Table.Block.{OfFetch}
-use Rattle.rom_rows.specs.Addresses.{RunsAt, Covers}
+use Rattle.rom_rows.specs.Addresses.{RunsAt, AllInBlocks}
 
 -- every main move keeps the rows of the fetch, of the dispatch and of the stops
 abbrev pub FetchRows : (Edition → List ℕ) → Type 0
@@ -37,7 +37,7 @@ FetchAddresses rom = (e : Edition) (l : FetchBlock) → RunsAt (program_of e (ro
 
 -- and each instruction of that code is in some block
 abbrev pub FetchCovers : Type 0
-FetchCovers = Covers Fetch
+FetchCovers = AllInBlocks Fetch
 
 -- the moves of boot
 abbrev pub boot_moves : ℕ

@@ -4,7 +4,7 @@ use Rattle.machine.specs.Bank.{word_of, value}
 use Rattle.machine.specs.Instruction.{at}
 use Rattle.machine.specs.Board.{Machine}
 use Rattle.chip8_lang.specs.declared.view.Edition.{Edition}
-use Rattle.chip8_image.specs.Labels.{at_key_yes, at_key_test, at_key_held}
+use Rattle.chip8_image.specs.declared.image.labels.TheConstants.{AT_KEY_YES, AT_KEY_TEST, AT_KEY_HELD}
 use Rattle.chip8_image.specs.declared.parts.Part.TheVariants.{Keys}
 use Rattle.rom_law.specs.Rows.{Since}
 use Rattle.rom_rows.specs.KeyBlocks.{KeyBlock, KeyPlace, skip_test_label, no_skip_label}
@@ -28,7 +28,7 @@ follows e (SkipLatch true) b h o = record { same = _; is = is_entered o.0.0.ente
 follows e (SkipLatch false) b h o = record { same = _; is = is_entered o.0.0.entered; follows = refl }
 follows e (NoSkip true) b h o = record { same = on_3 (no_skip_label true) b; is = is_on_3 (no_skip_label true) b o.0.0.p o.0.0.r3; follows = refl }
 follows e (NoSkip false) b h o = record { same = on_3 (no_skip_label false) b; is = is_on_3 (no_skip_label false) b o.0.0.p o.0.0.r3; follows = refl }
-follows e (Skip down) b h o = record { same = on_3 at_key_yes b; is = is_on_3 at_key_yes b o.0.0.p o.0.0.r3; follows = refl }
+follows e (Skip down) b h o = record { same = on_3 AT_KEY_YES b; is = is_on_3 AT_KEY_YES b o.0.0.p o.0.0.r3; follows = refl }
 follows e WaitKey b h o = record { same = _; is = is_entered o.0.0.entered; follows = refl }
 follows e (KeyNext turn) b h o = record { same = _; is = is_turning o.0.0; follows = refl }
 follows e (KeyCount turn) b h o = record { same = _; is = is_entered o.0.0.waiting.enters.entered; follows = refl }
@@ -44,8 +44,8 @@ counter a b p r3 = ap (at b.regs) p ∙ ap value r3
 pub place_addresses : KeyPlaceAddresses keys_rom
 place_addresses e (SkipTest true) b h o = counter (skip_test_label true) b o.0.0.p o.0.0.r3
 place_addresses e (SkipTest false) b h o = counter (skip_test_label false) b o.0.0.p o.0.0.r3
-place_addresses e (KeyTest turn) b h o = counter at_key_test b o.0.0.waiting.enters.entered.p o.0.0.waiting.enters.entered.r3
-place_addresses e (KeyHeld turn looks) b h o = counter at_key_held b o.0.0.enters.entered.p o.0.0.enters.entered.r3
+place_addresses e (KeyTest turn) b h o = counter AT_KEY_TEST b o.0.0.waiting.enters.entered.p o.0.0.waiting.enters.entered.r3
+place_addresses e (KeyHeld turn looks) b h o = counter AT_KEY_HELD b o.0.0.enters.entered.p o.0.0.enters.entered.r3
 
 blocks : List KeyBlock
 blocks =

@@ -14,7 +14,7 @@ use Rattle.chip8_lang.specs.State.{variable, instr_at}
 use Rattle.chip8_lang.specs.Step.{stop_of}
 use Rattle.chip8_lang.specs.Step.KeyInput.{Held}
 use Rattle.chip8_lang.specs.Between.{SomeTime}
-use Rattle.chip8_image.specs.Labels.{at_key_skip, at_key_skip_up, at_skip_up, at_skip_down, at_unknown82, at_key_yes}
+use Rattle.chip8_image.specs.declared.image.labels.TheConstants.{AT_KEY_SKIP, AT_KEY_SKIP_UP, AT_SKIP_UP, AT_SKIP_DOWN, AT_UNKNOWN82, AT_KEY_YES}
 use Rattle.rom_law.specs.Code.{Input}
 use Rattle.rom_law.specs.Moments.{Sees}
 use Rattle.rom_law.specs.Rows.{Since, Grows, now}
@@ -77,11 +77,11 @@ module _ (e : Edition) (b : Machine) (h : Since) (f : FitsMachine b) where
         digit = o.digit;
       }
 
-  pub key_skip_comes : Enters (quick e) at_key_skip 14 b (now h) → h.spent ≡ 80 → RunsBlock (quick e) (calm_pieces (quick e)) (OfKey KeySkip) b h
-  key_skip_comes o spent = branch (OfKey KeySkip) o.entered (tested 6 (bit_xor low 0x9e)) (bit_xor low 0x9e == 0) at_skip_down at_key_skip_up (omega arith) refl
-      (λ k h' g. to_key (quick e) g _ refl (SkipLatch true) (goes 6 (bit_xor low 0x9e) at_skip_down o, refl, xor_same low 0x9e k)
+  pub key_skip_comes : Enters (quick e) AT_KEY_SKIP 14 b (now h) → h.spent ≡ 80 → RunsBlock (quick e) (calm_pieces (quick e)) (OfKey KeySkip) b h
+  key_skip_comes o spent = branch (OfKey KeySkip) o.entered (tested 6 (bit_xor low 0x9e)) (bit_xor low 0x9e == 0) AT_SKIP_DOWN AT_KEY_SKIP_UP (omega arith) refl
+      (λ k h' g. to_key (quick e) g _ refl (SkipLatch true) (goes 6 (bit_xor low 0x9e) AT_SKIP_DOWN o, refl, xor_same low 0x9e k)
       (omega (arith, spent, g.spent)))
-      (λ k h' g. to_key (quick e) g _ refl KeySkipUp (goes 6 (bit_xor low 0x9e) at_key_skip_up o, refl, xor_other low 0x9e k) (omega (arith, spent, g.spent)))
+      (λ k h' g. to_key (quick e) g _ refl KeySkipUp (goes 6 (bit_xor low 0x9e) AT_KEY_SKIP_UP o, refl, xor_other low 0x9e k) (omega (arith, spent, g.spent)))
 
   unknown_stop : {a : ℕ} → Enters (quick e) a 14 b (now h) → (low ≡ 0x9e → ⊥) → (low ≡ 0xa1 → ⊥) → stop_of e (now h) ≡ Some Unknown
   unknown_stop o down up = rw (o.entered.inside, o.digit, ne_eqb low 0x9e down, ne_eqb low 0xa1 up) refl
@@ -89,16 +89,16 @@ module _ (e : Edition) (b : Machine) (h : Since) (f : FitsMachine b) where
   unknown_time : {a : ℕ} → Enters (quick e) a 14 b (now h) → (low ≡ 0x9e → ⊥) → (low ≡ 0xa1 → ⊥) → to_stop (quick e) (now h) ≡ 120
   unknown_time o down up = rw (o.entered.inside, o.digit, ne_eqb low 0x9e down, ne_eqb low 0xa1 up, o.digit) refl
 
-  pub key_skip_up_comes : Enters (quick e) at_key_skip_up 14 b (now h) → b.regs.x ≡ 6 → (low ≡ 0x9e → ⊥) → h.spent ≡ 88
+  pub key_skip_up_comes : Enters (quick e) AT_KEY_SKIP_UP 14 b (now h) → b.regs.x ≡ 6 → (low ≡ 0x9e → ⊥) → h.spent ≡ 88
       → RunsBlock (quick e) (calm_pieces (quick e)) (OfKey KeySkipUp) b h
   key_skip_up_comes o x down spent =
-      branch (OfKey KeySkipUp) o.entered (looked e high low b (bit_xor low 0xa1)) (not (bit_xor low 0xa1 == 0)) at_unknown82 at_skip_up
+      branch (OfKey KeySkipUp) o.entered (looked e high low b (bit_xor low 0xa1)) (not (bit_xor low 0xa1 == 0)) AT_UNKNOWN82 AT_SKIP_UP
       (omega arith) refl
       (λ k h' g. to_arith (quick e) g _ refl Unknown82
-      (looks (bit_xor low 0xa1) at_unknown82 o.entered, unknown_stop o down (other k))
+      (looks (bit_xor low 0xa1) AT_UNKNOWN82 o.entered, unknown_stop o down (other k))
       (omega (arith, spent, g.spent, unknown_time o down (other k))))
       (λ k h' g. to_key (quick e) g _ refl (SkipLatch false)
-      (record { entered = looks (bit_xor low 0xa1) at_skip_up o.entered; digit = o.digit }, x, xor_same low 0xa1 (rw (is_zero _ k) refl))
+      (record { entered = looks (bit_xor low 0xa1) AT_SKIP_UP o.entered; digit = o.digit }, x, xor_same low 0xa1 (rw (is_zero _ k) refl))
       (omega (arith, spent, g.spent)))
     where
       other : not (bit_xor low 0xa1 == 0) ≡ true → low ≡ 0xa1 → ⊥
@@ -112,7 +112,7 @@ module _ (e : Edition) (b : Machine) (h : Since) (f : FitsMachine b) where
   pub skip_latch_comes : (down : Bool) → Enters (quick e) (skip_label down) 14 b (now h) → b.regs.x ≡ 6 → low ≡ skip_code down
       → h.spent ≡ skip_time down → RunsBlock (quick e) (calm_pieces (quick e)) (OfKey (SkipLatch down)) b h
   skip_latch_comes true o x kk spent =
-      straight (OfKey (SkipLatch true)) o.entered.holds (pointing at_skip_down) (is_pointing o.entered x) _
+      straight (OfKey (SkipLatch true)) o.entered.holds (pointing AT_SKIP_DOWN) (is_pointing o.entered x) _
       (omega (arith, o.entered.holds.stack, stack_top_is e, page_fits e)) refl
       (λ h' g. to_key_place (quick e) g _ refl (SkipTest true) (
         record {
@@ -127,7 +127,7 @@ module _ (e : Edition) (b : Machine) (h : Since) (f : FitsMachine b) where
         latched_is o.entered,
       ) (omega (arith, spent, g.spent)))
   skip_latch_comes false o x kk spent =
-      straight (OfKey (SkipLatch false)) o.entered.holds (pointing at_skip_up) (is_pointing o.entered x) _
+      straight (OfKey (SkipLatch false)) o.entered.holds (pointing AT_SKIP_UP) (is_pointing o.entered x) _
       (omega (arith, o.entered.holds.stack, stack_top_is e, page_fits e)) refl
       (λ h' g. to_key_place (quick e) g _ refl (SkipTest false) (
         record {
@@ -163,15 +163,15 @@ module _ (e : Edition) (b : Machine) (h : Since) (f : FitsMachine b) where
       → At (quick e) (AtKey (SkipTest down)) b h → h.spent ≡ skip_time down + 2 → RunsPlace (quick e) (calm_pieces (quick e)) (AtKey (SkipTest down)) b h
   skip_test_holds true o key at spent =
       alone_forks (AtKey (SkipTest true)) f at o.holds (on_3 (skip_test_label true) b) (is_on_3 (skip_test_label true) b o.p o.r3) refl refl gone
-      (λ u. u.held b.key) at_key_yes (no_skip_label true) (λ u. refl)
-      (λ u k. to_key (quick e) (one_more u h) _ refl (Skip true) (skips_on at_key_yes o, found u true key k)
+      (λ u. u.held b.key) AT_KEY_YES (no_skip_label true) (λ u. refl)
+      (λ u k. to_key (quick e) (one_more u h) _ refl (Skip true) (skips_on AT_KEY_YES o, found u true key k)
       (omega (arith, spent), sees_now u h 90 (skip_key (now h)) true spent (ap u.held (sym key) ∙ k)))
       (λ u k. to_key (quick e) (one_more u h) _ refl (NoSkip true) (skips_on (no_skip_label true) o, found u false key k)
       (omega (arith, spent), sees_now u h 90 (skip_key (now h)) false spent (ap u.held (sym key) ∙ k)))
   skip_test_holds false o key at spent =
       alone_forks (AtKey (SkipTest false)) f at o.holds (on_3 (skip_test_label false) b) (is_on_3 (skip_test_label false) b o.p o.r3) refl refl gone
-      (λ u. not (u.held b.key)) at_key_yes (no_skip_label false) (λ u. refl)
-      (λ u k. to_key (quick e) (one_more u h) _ refl (Skip false) (skips_on at_key_yes o, found u false key (opposite (u.held b.key) true k))
+      (λ u. not (u.held b.key)) AT_KEY_YES (no_skip_label false) (λ u. refl)
+      (λ u k. to_key (quick e) (one_more u h) _ refl (Skip false) (skips_on AT_KEY_YES o, found u false key (opposite (u.held b.key) true k))
       (omega (arith, spent), sees_now u h 96 (skip_key (now h)) false spent (ap u.held (sym key) ∙ opposite (u.held b.key) true k)))
       (λ u k. to_key (quick e) (one_more u h) _ refl (NoSkip false)
       (skips_on (no_skip_label false) o, found u true key (opposite (u.held b.key) false k))
@@ -217,14 +217,14 @@ module _ (e : Edition) (b : Machine) (h : Since) (f : FitsMachine b) where
   two_on : {down : Bool} {a : ℕ} → Skipping (quick e) down a b (now h) → value (up (up b.regs.r.r5)) ≡ (now h).pc + 4
   two_on o = omega (arith, pc_is o.holds, is_inside e (now h) o.inside, memory_end_is e, page_fits e, f.regs.r.r5.hi, f.regs.r.r5.lo)
 
-  pub skip_comes : (down : Bool) → Skipping (quick e) down at_key_yes b (now h) → SomeTime h.keys (skip_key (now h)) down → h.spent ≡ skip_time down + 4
+  pub skip_comes : (down : Bool) → Skipping (quick e) down AT_KEY_YES b (now h) → SomeTime h.keys (skip_key (now h)) down → h.spent ≡ skip_time down + 4
       → Sees h.moments (skip_time down + 2) (skip_key (now h)) down
       → RunsBlock (quick e) (calm_pieces (quick e)) (OfKey (Skip down)) b h
-  skip_comes true o s spent met = straight (OfKey (Skip true)) o.holds (on_3 at_key_yes b) (is_on_3 at_key_yes b o.p o.r3) _ (omega arith) refl
+  skip_comes true o s spent met = straight (OfKey (Skip true)) o.holds (on_3 AT_KEY_YES b) (is_on_3 AT_KEY_YES b o.p o.r3) _ (omega arith) refl
       (λ h' g. steps_with e g (skip_of true) (skip_is true o) (skip_runs true o) (Held true) (allowed true g s) tt (λ n t. omega (arith, spent, some_is t)) (seen true g met)
       (makes_calm g (skip_is true o) refl) _
       (pc_set o.holds (up (up b.regs.r.r5)) ((now h).pc + 4) (two_on o)) refl o.r4)
-  skip_comes false o s spent met = straight (OfKey (Skip false)) o.holds (on_3 at_key_yes b) (is_on_3 at_key_yes b o.p o.r3) _ (omega arith) refl
+  skip_comes false o s spent met = straight (OfKey (Skip false)) o.holds (on_3 AT_KEY_YES b) (is_on_3 AT_KEY_YES b o.p o.r3) _ (omega arith) refl
       (λ h' g. steps_with e g (skip_of false) (skip_is false o) (skip_runs false o) (Held false) (allowed false g s) tt (λ n t. omega (arith, spent, some_is t)) (seen false g met)
       (makes_calm g (skip_is false o) refl) _
       (pc_set o.holds (up (up b.regs.r.r5)) ((now h).pc + 4) (two_on o)) refl o.r4)

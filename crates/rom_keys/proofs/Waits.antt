@@ -15,7 +15,7 @@ use Rattle.chip8_lang.specs.State.{Lang, instr_at}
 use Rattle.chip8_lang.specs.Step.{next, stop_of}
 use Rattle.chip8_lang.specs.Step.KeyInput.{Chosen}
 use Rattle.chip8_lang.specs.Between.{IsAt}
-use Rattle.chip8_image.specs.Labels.{at_fetch, at_wait_key, at_key_next, at_key_test, at_key_count, at_key_held, at_key_freed}
+use Rattle.chip8_image.specs.declared.image.labels.TheConstants.{AT_FETCH, AT_WAIT_KEY, AT_KEY_NEXT, AT_KEY_TEST, AT_KEY_COUNT, AT_KEY_HELD, AT_KEY_FREED}
 use Rattle.rom_law.specs.Code.{Input}
 use Rattle.rom_law.specs.Holding.{Places, places, Holding}
 use Rattle.rom_law.specs.Moments.{Sees, Searches, Holds as Held}
@@ -108,7 +108,7 @@ module _ (e : Edition) (b : Machine) (h : Since) (f : FitsMachine b) where
 
   -- FX0A goes on at w, in c
   waits_in : {a : ℕ} (w : ℕ) (c : Machine) → Waiting (quick e) a b (now h) → Holding (quick e) (places c) (next (now h)) → c.regs.p ≡ 3
-      → c.regs.r.r3 ≡ word_of w → c.regs.r.r4 ≡ word_of at_fetch → c.regs.r.r6 ≡ word (page_of e) (240 + high % 16)
+      → c.regs.r.r3 ≡ word_of w → c.regs.r.r4 ≡ word_of AT_FETCH → c.regs.r.r6 ≡ word (page_of e) (240 + high % 16)
       → c.regs.r.r7 ≡ word (page_of e) (240 + low / 16) → c.regs.r.rc ≡ word high low → Waiting (quick e) w c (now h)
   waits_in w c o holds p r3 r4 r6 r7 rc =
       record {
@@ -128,11 +128,11 @@ module _ (e : Edition) (b : Machine) (h : Since) (f : FitsMachine b) where
         low = o.low;
       }
 
-  pub wait_key_comes : Enters (quick e) at_wait_key 15 b (now h) → low ≡ 0x0a → h.spent ≡ 92 → RunsBlock (quick e) (calm_pieces (quick e)) (OfKey WaitKey) b h
+  pub wait_key_comes : Enters (quick e) AT_WAIT_KEY 15 b (now h) → low ≡ 0x0a → h.spent ≡ 92 → RunsBlock (quick e) (calm_pieces (quick e)) (OfKey WaitKey) b h
   wait_key_comes o kk spent = routine (OfKey WaitKey) o.entered _ (omega arith) refl
       (λ h' g. to_key (quick e) g _ refl (KeyNext 0) (
         record {
-          waiting = waits_in at_key_next _ (record { enters = o; low = kk }) o.entered.holds refl refl refl refl refl refl;
+          waiting = waits_in AT_KEY_NEXT _ (record { enters = o; low = kk }) o.entered.holds refl refl refl refl refl refl;
           count = refl;
           pointer = refl;
           rd = refl;
@@ -158,14 +158,14 @@ module _ (e : Edition) (b : Machine) (h : Since) (f : FitsMachine b) where
   words : (w : Word) (p l : ℕ) → w.hi ≡ p → w.lo ≡ l → w ≡ word p l
   words w p l hi lo = λ i. record { hi = hi i; lo = lo i }
 
-  pub key_next_comes : (turn : ℕ) → Turning (quick e) turn at_key_next b (now h) → Turned turn 0 h.keys → h.spent ≡ 106 + 14 * turn → Searches h.moments turn
+  pub key_next_comes : (turn : ℕ) → Turning (quick e) turn AT_KEY_NEXT b (now h) → Turned turn 0 h.keys → h.spent ≡ 106 + 14 * turn → Searches h.moments turn
       → RunsBlock (quick e) (calm_pieces (quick e)) (OfKey (KeyNext turn)) b h
   key_next_comes turn o t spent searched =
-      straight (OfKey (KeyNext turn)) o.waiting.enters.entered.holds (turning e at_key_next high low b) (is_turning o) _
+      straight (OfKey (KeyNext turn)) o.waiting.enters.entered.holds (turning e AT_KEY_NEXT high low b) (is_turning o) _
       (omega (arith, o.waiting.enters.entered.holds.stack, stack_top_is e, page_fits e)) refl
       (λ h' g. to_key_place (quick e) g _ refl (KeyTest turn) (
         record {
-          waiting = waits_in at_key_test _ o.waiting
+          waiting = waits_in AT_KEY_TEST _ o.waiting
               (work_set o.waiting.enters.entered.holds work b.regs.r.re.lo above below) refl refl refl refl refl refl;
           count = o.count;
           pointer = refl;
@@ -192,14 +192,14 @@ module _ (e : Edition) (b : Machine) (h : Since) (f : FitsMachine b) where
   digit_of : {turn a : ℕ} → Turning (quick e) turn a b (now h) → turn % 16 ≡ b.regs.r.re.lo % 16
   digit_of o = omega (arith, o.count)
 
-  pub key_test_holds : (turn : ℕ) → Turning (quick e) turn at_key_test b (now h) → b.key ≡ turn % 16 → Turned turn 4 h.keys
+  pub key_test_holds : (turn : ℕ) → Turning (quick e) turn AT_KEY_TEST b (now h) → b.key ≡ turn % 16 → Turned turn 4 h.keys
       → At (quick e) (AtKey (KeyTest turn)) b h → h.spent ≡ 114 + 14 * turn → Searches h.moments turn
       → RunsPlace (quick e) (calm_pieces (quick e)) (AtKey (KeyTest turn)) b h
   key_test_holds turn o key t at spent searched =
-      alone_forks (AtKey (KeyTest turn)) f at o.waiting.enters.entered.holds (turning e at_key_test high low b) (is_turning o) refl refl gone
-      (λ u. u.held b.key) at_key_held at_key_count (λ u. refl)
+      alone_forks (AtKey (KeyTest turn)) f at o.waiting.enters.entered.holds (turning e AT_KEY_TEST high low b) (is_turning o) refl refl gone
+      (λ u. u.held b.key) AT_KEY_HELD AT_KEY_COUNT (λ u. refl)
       (λ u k. to_key_place (quick e) (one_more u h) _ refl (KeyHeld turn 0) (
-        waits_on at_key_held o,
+        waits_on AT_KEY_HELD o,
         key ∙ digit_of o,
         last_set h.keys u.held (b.regs.r.re.lo % 16) true (ap u.held (sym (key ∙ digit_of o)) ∙ k),
         sym (digit_of o),
@@ -212,16 +212,16 @@ module _ (e : Edition) (b : Machine) (h : Since) (f : FitsMachine b) where
         },
       ))
       (λ u k. to_key (quick e) (one_more u h) _ refl (KeyCount turn)
-      (turns_on at_key_count o, turned_test u h t, last_set h.keys u.held (turn % 16) false (ap u.held (sym key) ∙ k))
+      (turns_on AT_KEY_COUNT o, turned_test u h t, last_set h.keys u.held (turn % 16) false (ap u.held (sym key) ∙ k))
       (omega (arith, spent), searches_more u h turn searched spent (ap u.held (sym key) ∙ k)))
 
-  pub key_count_comes : (turn : ℕ) → Turning (quick e) turn at_key_count b (now h) → Turned turn 5 h.keys → Last h.keys (turn % 16) false
+  pub key_count_comes : (turn : ℕ) → Turning (quick e) turn AT_KEY_COUNT b (now h) → Turned turn 5 h.keys → Last h.keys (turn % 16) false
       → h.spent ≡ 116 + 14 * turn → Searches h.moments (suc turn) → RunsBlock (quick e) (calm_pieces (quick e)) (OfKey (KeyCount turn)) b h
   key_count_comes turn o t last spent searched =
-      straight (OfKey (KeyCount turn)) o.waiting.enters.entered.holds (turning e at_key_count high low b) (is_turning o) _ (omega arith) refl
+      straight (OfKey (KeyCount turn)) o.waiting.enters.entered.holds (turning e AT_KEY_COUNT high low b) (is_turning o) _ (omega arith) refl
       (λ h' g. to_key (quick e) g _ refl (KeyNext (suc turn)) (
         record {
-          waiting = waits_in at_key_next _ o.waiting o.waiting.enters.entered.holds refl refl refl refl refl refl;
+          waiting = waits_in AT_KEY_NEXT _ o.waiting o.waiting.enters.entered.holds refl refl refl refl refl refl;
           count = counts;
           pointer = refl;
           rd = refl;
@@ -254,17 +254,17 @@ module _ (e : Edition) (b : Machine) (h : Since) (f : FitsMachine b) where
       up : Last (h.keys ++ u.held ∷ []) k false
       up = last_set h.keys u.held k false is
 
-  pub key_held_holds : (turn looks : ℕ) → Waiting (quick e) at_key_held b (now h) → b.key ≡ b.regs.r.re.lo % 16 → Last h.keys (b.regs.r.re.lo % 16) true
+  pub key_held_holds : (turn looks : ℕ) → Waiting (quick e) AT_KEY_HELD b (now h) → b.key ≡ b.regs.r.re.lo % 16 → Last h.keys (b.regs.r.re.lo % 16) true
       → b.regs.r.re.lo % 16 ≡ turn % 16 → At (quick e) (AtKey (KeyHeld turn looks)) b h → h.spent ≡ 116 + 14 * turn + 2 * looks
       → Held h.moments turn looks → RunsPlace (quick e) (calm_pieces (quick e)) (AtKey (KeyHeld turn looks)) b h
   key_held_holds turn looks o key last same at spent holds =
-      alone_forks (AtKey (KeyHeld turn looks)) f at o.enters.entered.holds (entered e at_key_held high low b) (is_entered o.enters.entered) refl refl waiting
-      (λ u. u.held b.key) at_key_held at_key_freed (λ u. refl)
+      alone_forks (AtKey (KeyHeld turn looks)) f at o.enters.entered.holds (entered e AT_KEY_HELD high low b) (is_entered o.enters.entered) refl refl waiting
+      (λ u. u.held b.key) AT_KEY_HELD AT_KEY_FREED (λ u. refl)
       (λ u k. to_key_place (quick e) (one_more u h) _ refl (KeyHeld turn (suc looks))
-      (waits_more at_key_held o, key, last_set h.keys u.held (b.regs.r.re.lo % 16) true (ap u.held (sym key) ∙ k), same)
+      (waits_more AT_KEY_HELD o, key, last_set h.keys u.held (b.regs.r.re.lo % 16) true (ap u.held (sym key) ∙ k), same)
       (omega (arith, spent), holds_more u h turn looks holds spent (ap u.held (sym (key ∙ same)) ∙ k)))
       (λ u k. to_key (quick e) (one_more u h) _ refl (KeyFreed turn looks)
-      (waits_more at_key_freed o, lets_go u last (ap u.held (sym key) ∙ k), same) (
+      (waits_more AT_KEY_FREED o, lets_go u last (ap u.held (sym key) ∙ k), same) (
         omega (arith, spent),
         holds_grown (one_more u h) holds,
         sees_now u h (116 + 14 * turn + 2 * looks) (turn % 16) false spent (ap u.held (sym (key ∙ same)) ∙ k),
@@ -275,7 +275,7 @@ module _ (e : Edition) (b : Machine) (h : Since) (f : FitsMachine b) where
   abbrev put : ℕ → Places
   put v = record (places b) { ram = written b.latch b.ram (value (word (page_of e) (240 + high % 16))) v }
 
-  pub key_freed_comes : (turn looks : ℕ) → Waiting (quick e) at_key_freed b (now h) → JustUp h.keys (b.regs.r.re.lo % 16)
+  pub key_freed_comes : (turn looks : ℕ) → Waiting (quick e) AT_KEY_FREED b (now h) → JustUp h.keys (b.regs.r.re.lo % 16)
       → b.regs.r.re.lo % 16 ≡ turn % 16 → h.spent ≡ 118 + 14 * turn + 2 * looks → Held h.moments turn looks
       → Sees h.moments (116 + 14 * turn + 2 * looks) (turn % 16) false → RunsBlock (quick e) (calm_pieces (quick e)) (OfKey (KeyFreed turn looks)) b h
   key_freed_comes turn looks o freed same spent holds up = routine (OfKey (KeyFreed turn looks)) o.enters.entered _ (omega (arith, o.enters.entered.holds.stack, stack_top_is e, page_fits e)) refl

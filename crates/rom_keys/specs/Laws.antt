@@ -1,5 +1,5 @@
 -- What is proved of EX9E, EXA1 and FX0A. K is the sets of keys that were down at the main moves since the dispatch point.
-use Rattle.std.specs.Prelude.{◌≡◌, ℕ, ◌+◌, ◌*◌, ◌%◌, ◌<◌, ◌≤◌, Bool, true, false, List, [], ◌∷◌, length}
+use Rattle.std.specs.Prelude.{◌≡◌, ℕ, ◌+◌, ◌*◌, ◌%◌, ◌<◌, ◌≤◌, Bool, true, false, List, length}
 use Rattle.machine.specs.Instruction.{at}
 use Rattle.machine.specs.Board.{Machine}
 use Rattle.machine.specs.Keys.{Keys}
@@ -17,7 +17,7 @@ use Rattle.rom_rows.specs.KeyBlocks.KeyPlace.{KeyTest, KeyHeld}
 use Rattle.rom_rows.specs.Table.{At, BlockRows, PlaceRows, pieces}
 use Rattle.rom_rows.specs.Table.Block.{OfKey}
 use Rattle.rom_rows.specs.Table.Place.{AtKey}
-use Rattle.rom_rows.specs.Addresses.{RunsAt, Covers}
+use Rattle.rom_rows.specs.Addresses.{RunsAt, AllInBlocks}
 
 -- ---- the rows
 
@@ -42,7 +42,7 @@ KeyPlaceAddresses rom =
 
 -- each instruction of that code is in some block or at some place
 abbrev pub KeyCovers : Type 0
-KeyCovers = Covers IsKeys
+KeyCovers = AllInBlocks IsKeys
 
 -- ---- the sets of keys in FX0A
 

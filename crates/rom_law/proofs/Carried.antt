@@ -40,15 +40,15 @@ module _ (rom : List ℕ) (held : ℕ → Keys) (b : Machine) (h : Since) where
 
   -- ---- the dispatch point stays
 
-  record Keeps (h' : Since) : Type 0 where
+  record KeepsState (h' : Since) : Type 0 where
     from : h'.from ≡ h.from
     state : h'.state ≡ h.state
 
-  keeps_enabled : (t : Bool) → Keeps (by_enabled t)
+  keeps_enabled : (t : Bool) → KeepsState (by_enabled t)
   keeps_enabled true = record { from = refl; state = refl }
   keeps_enabled false = record { from = refl; state = refl }
 
-  keeps : (k : Case) → Keeps (carried_by k rom held b h)
+  keeps : (k : Case) → KeepsState (carried_by k rom held b h)
   keeps Dma = record { from = refl; state = refl }
   keeps Interrupt = record { from = refl; state = refl }
   keeps Idle = record { from = refl; state = refl }

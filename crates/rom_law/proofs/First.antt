@@ -9,13 +9,12 @@ use Rattle.machine.specs.Keys.{Keys}
 use Rattle.machine.specs.Run.{after_moves}
 use Rattle.machine.specs.Ranges.{FitsMachine, FitsRom}
 use Rattle.chip8_lang.specs.declared.view.Edition.{Edition}
-use Rattle.chip8_lang.specs.declared.view.Edition.TheVariants.{Usual, Tall}
 use Rattle.chip8_lang.specs.Editions.{memory_start, memory_end, stack_top, variables, screen_start, rows_of, random_cell}
 use Rattle.chip8_lang.specs.Screen.{is_set, empty}
 use Rattle.chip8_lang.specs.State.{first, memory_size}
 use Rattle.chip8_lang.specs.Places.{Lies, state_of, pixels, addresses}
 use Rattle.machine.proofs.Fits.{move-fits, reset-fits}
-use Rattle.rom_law.proofs.Places.{depth, range_get, range_length, stack_below, variables_below, screen_below, stack_room}
+use Rattle.rom_law.proofs.Places.{depth, range_get, range_length, stack_below, variables_below, screen_below, stack_room, memory_most}
 
 -- ---- lists of zeros
 
@@ -97,10 +96,6 @@ dark rows n = λ i x y. off (nat_lt x 64 && nat_lt y rows) (zeros_at n (8 * y + 
     off t e k = rw (e, bit_at-zero k) (none t)
 
 -- ---- the first state
-
-memory_most : (e : Edition) → memory_start + memory_size e ≡ memory_end e
-memory_most Usual = refl
-memory_most Tall = refl
 
 module _ (e : Edition) (game : List ℕ) (room : length game ≤ memory_size e) where
   size : length (ram 0x1000 0x200 game) ≡ 0x1000

@@ -10,7 +10,7 @@ use Rattle.chip8_lang.specs.Step.{KeyInput, step, done_by}
 use Rattle.chip8_lang.specs.Step.KeyInput.{Nothing, Held, Chosen}
 use Rattle.chip8_lang.specs.Ticks.{tick, ticks}
 use Rattle.chip8_lang.specs.Between.{Between, Allows, WaitsWell, IsAt, SomeTime, LetGo, keys_from}
-use Rattle.rom_law.specs.Moments.{Moment, Tells}
+use Rattle.rom_law.specs.Moments.{Moment, MovesTell}
 use Rattle.rom_law.specs.Rows.{Embeds}
 
 -- ---- ticks
@@ -90,14 +90,14 @@ module _ (e : Edition) (s : Lang) (n : ℕ) (sets : List Keys) (z : Lang) (h : B
   between_tick_key = go_key (instr_at s) refl h.waits
 
   -- and so is what the main moves say of it
-  told_go : (moments : List Moment) (spent : ℕ) (i : Instr) (eq : i ≡ instr_at s) (w : WaitsWell i h.before h.after) → Tells i s moments spent h.before h.key
-      → Tells i s moments spent (go i eq w).before (go i eq w).key
+  told_go : (moments : List Moment) (spent : ℕ) (i : Instr) (eq : i ≡ instr_at s) (w : WaitsWell i h.before h.after) → MovesTell i s moments spent h.before h.key
+      → MovesTell i s moments spent (go i eq w).before (go i eq w).key
   unfolding go after_step before_step
   told_go moments spent Clear eq w t = t
   told_go moments spent (Draw x y m) eq w t = t
   told_go moments spent i eq w t = t
 
-  told_tick : (moments : List Moment) (spent : ℕ) → Tells (instr_at s) s moments spent h.before h.key → Tells (instr_at s) s moments spent between_tick.before between_tick.key
+  told_tick : (moments : List Moment) (spent : ℕ) → MovesTell (instr_at s) s moments spent h.before h.key → MovesTell (instr_at s) s moments spent between_tick.before between_tick.key
   unfolding between_tick
   told_tick moments spent = told_go moments spent (instr_at s) refl h.waits
 
@@ -128,8 +128,8 @@ between_ticks_key (suc m) e s n sets z h =
     between_tick_key e s (n + m) sets (ticks m z) (between_ticks m e s n sets z h) ∙ between_ticks_key m e s n sets z h
 
 pub told_ticks : (m : ℕ) (e : Edition) (s : Lang) (n : ℕ) (sets : List Keys) (z : Lang) (h : Between e s n sets z) (moments : List Moment)
-    (spent : ℕ) → Tells (instr_at s) s moments spent h.before h.key
-    → Tells (instr_at s) s moments spent (between_ticks m e s n sets z h).before (between_ticks m e s n sets z h).key
+    (spent : ℕ) → MovesTell (instr_at s) s moments spent h.before h.key
+    → MovesTell (instr_at s) s moments spent (between_ticks m e s n sets z h).before (between_ticks m e s n sets z h).key
 unfolding between_ticks
 told_ticks zero e s n sets z h moments spent t = t
 told_ticks (suc m) e s n sets z h moments spent t =

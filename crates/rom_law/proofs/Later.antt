@@ -10,7 +10,7 @@ use Rattle.chip8_lang.specs.State.{Lang}
 use Rattle.chip8_lang.specs.Ticks.{tick, ticks}
 use Rattle.chip8_lang.specs.Places.{pixels, addresses, most_addresses}
 use Rattle.rom_law.specs.Later.{After, falls, ups, tones}
-use Rattle.rom_law.specs.Program.{Program, code, Keeps, Dispatches, Halts}
+use Rattle.rom_law.specs.Program.{Program, code, KeepsState, Dispatches, Halts}
 use Rattle.rom_law.proofs.Places.{Places, places, depth, lies_in, Holding, holding, keeping, range_same, addresses_same, stack_below, variables_below, memory_above, stack_room, most}
 
 ups_fit : (n : ℕ) (w : Word) → FitsWord w → FitsWord (ups n w)
@@ -98,7 +98,7 @@ module _ (x : Program) (n : ℕ) (b c : Machine) (s : Lang) (h : After (code x).
       }
 
 module _ (x : Program) (n : ℕ) (b c : Machine) (h : After (code x).low n b c) (f : FitsMachine b) where
-  pub keeps_after : (s : Lang) → Keeps x b s → Keeps x c (ticks n s)
+  pub keeps_after : (s : Lang) → KeepsState x b s → KeepsState x c (ticks n s)
   keeps_after s o = keeping x c (ticks n s) (holding_after x n b c s h (holding x b s f.size o) f.regs.r.r9)
 
   pub dispatches_after : (s : Lang) → Dispatches x b s → Dispatches x c (ticks n s)

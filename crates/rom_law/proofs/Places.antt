@@ -7,14 +7,14 @@ use Rattle.machine.specs.Memory.{read, written}
 use Rattle.machine.specs.Board.{Machine}
 use Rattle.chip8_lang.specs.declared.view.Edition.{Edition}
 use Rattle.chip8_lang.specs.declared.view.Edition.TheVariants.{Usual, Tall}
-use Rattle.chip8_lang.specs.Editions.{memory_start, memory_end, stack_top, variables, screen_start, rows_of, random_cell}
-use Rattle.chip8_lang.specs.State.{Lang, memory_byte}
+use Rattle.chip8_lang.specs.Editions.{memory_start, memory_end, stack_top, variables, screen_start, rows_of, random_cell, sprite_work, lines_of}
+use Rattle.chip8_lang.specs.State.{Lang, memory_byte, memory_size}
 use Rattle.chip8_lang.specs.Places.{state_of, pixels, addresses, most_addresses}
 use Rattle.rom_law.proofs.Moves.{read_ram, written_is}
-use Rattle.rom_law.specs.Program.{Program, Keeps}
+use Rattle.rom_law.specs.Program.{Program, KeepsState}
 pub use Rattle.rom_law.specs.Holding.{Places, places, depth, lies_in, Holding}
 
-pub holding : (x : Program) (b : Machine) (s : Lang) → length b.ram ≡ 0x1000 → Keeps x b s → Holding x (places b) s
+pub holding : (x : Program) (b : Machine) (s : Lang) → length b.ram ≡ 0x1000 → KeepsState x b s → Holding x (places b) s
 unfolding state_of
 holding x b s size h =
     record {
@@ -29,7 +29,7 @@ holding x b s size h =
       page = h.page;
     }
 
-pub keeping : (x : Program) (b : Machine) (s : Lang) → Holding x (places b) s → Keeps x b s
+pub keeping : (x : Program) (b : Machine) (s : Lang) → Holding x (places b) s → KeepsState x b s
 unfolding state_of
 keeping x b s h =
     record {
@@ -120,6 +120,32 @@ memory_above Tall = lit< tt
 pub stack_room : (e : Edition) → memory_end e + 2 * most_addresses < stack_top e
 stack_room Usual = lit< tt
 stack_room Tall = lit< tt
+
+pub memory_most : (e : Edition) → memory_start + memory_size e ≡ memory_end e
+memory_most Usual = refl
+memory_most Tall = refl
+
+pub work_above : (e : Edition) → stack_top e < sprite_work e
+work_above Usual = lit< tt
+work_above Tall = lit< tt
+
+-- the screen ends with RAM
+pub screen_ends : (e : Edition) → screen_start e + 8 * rows_of e ≡ 0x1000
+screen_ends Usual = refl
+screen_ends Tall = refl
+
+pub some_rows : (e : Edition) → 0 < rows_of e
+some_rows Usual = lit< tt
+some_rows Tall = lit< tt
+
+pub few_rows : (e : Edition) → rows_of e ≤ 64
+few_rows Usual = omega arith
+few_rows Tall = omega arith
+
+-- each of the 128 lines of the window shows a row
+pub row_inside : (e : Edition) (k : ℕ) → k < 128 → k / lines_of e < rows_of e
+row_inside Usual k h = omega arith
+row_inside Tall k h = omega arith
 
 pub most : (a b : ℕ) → min a b ≤ a
 most a b = omega arith

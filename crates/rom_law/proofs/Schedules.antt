@@ -64,7 +64,7 @@ ticked_after x b _ _ i (Again n c d t k) = later_tick (memory_end x.edition) n b
 
 module _ (x : Program) (t : Pieces) (proved : Proved x t) (b : Machine) (s : Lang) (fits : FitsMachine b) (stands : Dispatches x b s) where
   -- what is known along the schedule
-  record Known (n : ℕ) (sets : List Keys) (c : Machine) : Type 0 where
+  record RowKnown (n : ℕ) (sets : List Keys) (c : Machine) : Type 0 where
     since : Since
     state : since.state ≡ s
     ticks : since.ticks ≡ n
@@ -72,8 +72,8 @@ module _ (x : Program) (t : Pieces) (proved : Proved x t) (b : Machine) (s : Lan
     row : Row x t c since
     range : FitsMachine c
 
-  known_main : (n : ℕ) (sets : List Keys) (c : Machine) (u : Input) (k : Known n sets c) → is_event (code x) (moved (code x) u c) ≡ false
-      → Outcome x t (moved (code x) u c) (after_main u k.since) → Known n (sets ++ u.held ∷ []) (moved (code x) u c)
+  known_main : (n : ℕ) (sets : List Keys) (c : Machine) (u : Input) (k : RowKnown n sets c) → is_event (code x) (moved (code x) u c) ≡ false
+      → Outcome x t (moved (code x) u c) (after_main u k.since) → RowKnown n (sets ++ u.held ∷ []) (moved (code x) u c)
   known_main n sets c u k e (Still calm row) =
       record {
         since = after_main u k.since;
@@ -86,7 +86,7 @@ module _ (x : Program) (t : Pieces) (proved : Proved x t) (b : Machine) (s : Lan
   known_main n sets c u k e (Arrived z st makes) = differ (dispatch_event x (moved (code x) u c) z st.stands) e
   known_main n sets c u k e (Halted stop st) = differ (halt_event x (moved (code x) u c) (now (after_main u k.since)) stop st.halts) e
 
-  known : (n : ℕ) (sets : List Keys) (c : Machine) → Leads x b n sets c → Known n sets c
+  known : (n : ℕ) (sets : List Keys) (c : Machine) → Leads x b n sets c → RowKnown n sets c
   known _ _ _ Here =
       record {
         since = dispatched 0 s;
@@ -107,11 +107,11 @@ module _ (x : Program) (t : Pieces) (proved : Proved x t) (b : Machine) (s : Lan
       }
   known _ _ _ (ByMain n sets c d efx held l m e) =
       let r = known n sets c l in let u : Input = record { efx = efx; held = held } in
-      subst (Known n (sets ++ held ∷ [])) (sym m.moved)
+      subst (RowKnown n (sets ++ held ∷ [])) (sym m.moved)
       (known_main n sets c u r (subst (λ z. is_event (code x) z ≡ false) m.moved e) (row_moves x t proved u c r.since r.range m.awake r.row))
 
   -- the event, and ticks after it
-  module _ (n : ℕ) (sets : List Keys) (c : Machine) (k : Known n sets c) (u : Input) (m : ℕ) (e : Machine) where
+  module _ (n : ℕ) (sets : List Keys) (c : Machine) (k : RowKnown n sets c) (u : Input) (m : ℕ) (e : Machine) where
     abbrev d : Machine
     d = moved (code x) u c
 
@@ -135,7 +135,7 @@ every_schedule x t proved b s fits stands n sets c l efx held d m v j e k = go (
     u : Input
     u = record { efx = efx; held = held }
 
-    go : Known x t proved b s fits stands n sets c → Follows x s (n + j) (sets ++ held ∷ []) e
+    go : RowKnown x t proved b s fits stands n sets c → Follows x s (n + j) (sets ++ held ∷ []) e
     go r =
         follows x t proved b s fits stands n sets c r u j e (main-fits x.interpreter.rom proved.rom efx held c r.range)
         (subst (λ z. Ticked x z j e) m.moved k) (subst (λ z. is_event (code x) z ≡ true) m.moved v)

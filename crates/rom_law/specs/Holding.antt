@@ -61,7 +61,7 @@ lies_in e p =
       screen = pixels (rows_of e) (slice_range p.ram (screen_start e) 0x1000);
     }
 
--- `Keeps` over the places alone, so that it stays what it is where a machine changes elsewhere, and the size of RAM
+-- `KeepsState` over the places alone, so that it stays what it is where a machine changes elsewhere, and the size of RAM
 pub record Holding (x : Program) (p : Places) (s : Lang) : Type 0 where
   pub is : lies_in x.edition p ≡ s
   pub stack : value p.r2 + 2 * length s.stack ≡ stack_top x.edition

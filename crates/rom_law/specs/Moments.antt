@@ -24,7 +24,7 @@ Among m [] = ⊥
 Among m (latest ∷ moments) = (m ≡ latest) ⊎ Among m moments
 
 -- the one at so many main cycles comes after so many ticks
-pub record Meets (moments : List Moment) (spent ticks : ℕ) : Type 0 where
+pub record TicksBefore (moments : List Moment) (spent ticks : ℕ) : Type 0 where
   pub moment : Moment
   pub among : Among moment moments
   pub at : moment.spent ≡ spent
@@ -73,12 +73,12 @@ takes_by e i s key = Some (cycles e i key s)
 
 -- The four instructions that use the timers or the count of ticks do so at one main move, with the ticks before it and no other; EX9E and EXA1 look at
 -- their key at one. FX0A looks at the keys in turn, and then at its own.
-abbrev pub Tells : Instr → Lang → List Moment → ℕ → ℕ → KeyInput → Type 0
-Tells (Random x k) s moments spent before key = Meets moments 90 before
-Tells (GetDelay x) s moments spent before key = Meets moments 86 before
-Tells (SetDelay x) s moments spent before key = Meets moments 100 before
-Tells (SetSound x) s moments spent before key = Meets moments 106 before
-Tells (SkipDown x) s moments spent before (Held down) = Sees moments 90 (variable s x % 16) down
-Tells (SkipUp x) s moments spent before (Held down) = Sees moments 96 (variable s x % 16) down
-Tells (WaitKey x) s moments spent before (Chosen k) = Chooses moments spent k
-Tells _ s moments spent before key = Unit {0}
+abbrev pub MovesTell : Instr → Lang → List Moment → ℕ → ℕ → KeyInput → Type 0
+MovesTell (Random x k) s moments spent before key = TicksBefore moments 90 before
+MovesTell (GetDelay x) s moments spent before key = TicksBefore moments 86 before
+MovesTell (SetDelay x) s moments spent before key = TicksBefore moments 100 before
+MovesTell (SetSound x) s moments spent before key = TicksBefore moments 106 before
+MovesTell (SkipDown x) s moments spent before (Held down) = Sees moments 90 (variable s x % 16) down
+MovesTell (SkipUp x) s moments spent before (Held down) = Sees moments 96 (variable s x % 16) down
+MovesTell (WaitKey x) s moments spent before (Chosen k) = Chooses moments spent k
+MovesTell _ s moments spent before key = Unit {0}

@@ -38,7 +38,7 @@ code x =
     record { rom = x.interpreter.rom; fetch = x.interpreter.fetch; halt = x.interpreter.halt; low = memory_end x.edition }
 
 -- the state s lies in the machine, and what boot set up is as boot left it
-pub record Keeps (x : Program) (b : Machine) (s : Lang) : Type 0 where
+pub record KeepsState (x : Program) (b : Machine) (s : Lang) : Type 0 where
   pub lies : Lies x.edition b s
   pub on : b.on ≡ x.on
   pub entry : b.regs.r.r1 ≡ x.entry
@@ -46,13 +46,13 @@ pub record Keeps (x : Program) (b : Machine) (s : Lang) : Type 0 where
 
 -- besides, the machine is at the fetch loop, with program counter R4
 pub record Dispatches (x : Program) (b : Machine) (s : Lang) : Type 0 where
-  pub keeps : Keeps x b s
+  pub keeps : KeepsState x b s
   pub p : b.regs.p ≡ 4
   pub r4 : b.regs.r.r4 ≡ word_of x.interpreter.fetch
 
 -- or it is at the stop, with program counter R3 and the number of the stop in its cell
 pub record Halts (x : Program) (b : Machine) (s : Lang) (stop : Stop) : Type 0 where
-  pub keeps : Keeps x b s
+  pub keeps : KeepsState x b s
   pub p : b.regs.p ≡ 3
   pub r3 : b.regs.r.r3 ≡ word_of x.interpreter.halt
   pub number : slice_index b.ram stop_cell ≡ stop_number stop

@@ -9,7 +9,7 @@ use Rattle.chip8_lang.specs.Ticks.{ticks}
 use Rattle.chip8_lang.specs.Between.{Between}
 use Rattle.rom_law.specs.Code.{Input, run, is_event}
 use Rattle.rom_law.specs.Later.{After}
-use Rattle.rom_law.specs.Moments.{Moment, Among, Tells}
+use Rattle.rom_law.specs.Moments.{Moment, Among, MovesTell}
 use Rattle.rom_law.specs.Program.{Program, code, Dispatches, Halts}
 
 -- What came since the last dispatch: the cycle of that dispatch, the language state there, the ticks since, the main cycles since, the sets of
@@ -109,7 +109,7 @@ pub record Stepped (x : Program) (b : Machine) (h : Since) (s : Lang) : Type 0 w
   pub runs : x.stop_of h.state ≡ None
   pub between : Between x.edition h.state h.ticks h.keys s
   pub time : (n : ℕ) → x.takes h.state between.key ≡ Some n → h.spent ≡ n
-  pub told : Tells (instr_at h.state) h.state h.moments h.spent between.before between.key
+  pub told : MovesTell (instr_at h.state) h.state h.moments h.spent between.before between.key
   pub stands : Dispatches x b s
 
 -- a stop: it is that of the state, in its main cycles

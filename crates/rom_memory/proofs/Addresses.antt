@@ -2,7 +2,7 @@
 use Rattle.std.proofs.Common.{refl, List, [], ◌∷◌}
 use Rattle.machine.specs.Board.{Machine}
 use Rattle.chip8_lang.specs.declared.view.Edition.{Edition}
-use Rattle.chip8_image.specs.Labels.{at_hundreds, at_hundreds_end, at_tens, at_tens_end, at_store_byte, at_store_end, at_restore_byte, at_restore_end}
+use Rattle.chip8_image.specs.declared.image.labels.TheConstants.{AT_HUNDREDS, AT_HUNDREDS_END, AT_TENS, AT_TENS_END, AT_STORE_BYTE, AT_STORE_END, AT_RESTORE_BYTE, AT_RESTORE_END}
 use Rattle.chip8_image.specs.declared.parts.Part.TheVariants.{Memory}
 use Rattle.rom_law.specs.Rows.{Since}
 use Rattle.rom_rows.specs.Checks.Caller.{ForDecimal}
@@ -35,22 +35,22 @@ follows e Decimal b h o = record { same = _; is = is_entered o.0.0.entered; foll
 follows e (DecimalFound InGame) b h o = record { same = _; is = is_resumed o.0; follows = refl }
 follows e (DecimalFound InFont) b h o = record { same = _; is = is_resumed o.0; follows = refl }
 follows e (DecimalFound Nowhere) b h o = record { same = _; is = is_resumed o.0; follows = refl }
-follows e (Hundreds k) b h o = record { same = on_3 at_hundreds b; is = is_on_3 at_hundreds b o.0.0.p o.0.0.r3; follows = refl }
-follows e HundredsEnd b h o = record { same = on_3 at_hundreds_end b; is = is_on_3 at_hundreds_end b o.0.p o.0.r3; follows = refl }
-follows e (Tens k) b h o = record { same = on_3 at_tens b; is = is_on_3 at_tens b o.0.0.p o.0.0.r3; follows = refl }
-follows e TensEnd b h o = record { same = on_3 at_tens_end b; is = is_on_3 at_tens_end b o.0.p o.0.r3; follows = refl }
+follows e (Hundreds k) b h o = record { same = on_3 AT_HUNDREDS b; is = is_on_3 AT_HUNDREDS b o.0.0.p o.0.0.r3; follows = refl }
+follows e HundredsEnd b h o = record { same = on_3 AT_HUNDREDS_END b; is = is_on_3 AT_HUNDREDS_END b o.0.p o.0.r3; follows = refl }
+follows e (Tens k) b h o = record { same = on_3 AT_TENS b; is = is_on_3 AT_TENS b o.0.0.p o.0.0.r3; follows = refl }
+follows e TensEnd b h o = record { same = on_3 AT_TENS_END b; is = is_on_3 AT_TENS_END b o.0.p o.0.r3; follows = refl }
 follows e Store b h o = record { same = _; is = is_entered o.0.0.entered; follows = refl }
 follows e (StoreFound InGame) b h o = record { same = _; is = is_resumed o.0; follows = refl }
 follows e (StoreFound InFont) b h o = record { same = _; is = is_resumed o.0; follows = refl }
 follows e (StoreFound Nowhere) b h o = record { same = _; is = is_resumed o.0; follows = refl }
-follows e (StoreByte k) b h o = record { same = on_3 at_store_byte b; is = is_on_3 at_store_byte b o.0.0.p o.0.0.r3; follows = refl }
-follows e StoreEnd b h o = record { same = on_3 at_store_end b; is = is_on_3 at_store_end b o.0.0.p o.0.0.r3; follows = refl }
+follows e (StoreByte k) b h o = record { same = on_3 AT_STORE_BYTE b; is = is_on_3 AT_STORE_BYTE b o.0.0.p o.0.0.r3; follows = refl }
+follows e StoreEnd b h o = record { same = on_3 AT_STORE_END b; is = is_on_3 AT_STORE_END b o.0.0.p o.0.0.r3; follows = refl }
 follows e Restore b h o = record { same = _; is = is_entered o.0.0.entered; follows = refl }
 follows e (RestoreFound InGame) b h o = record { same = _; is = is_resumed o.0; follows = refl }
 follows e (RestoreFound InFont) b h o = record { same = _; is = is_resumed o.0; follows = refl }
 follows e (RestoreFound Nowhere) b h o = record { same = _; is = is_resumed o.0; follows = refl }
-follows e (RestoreByte k) b h o = record { same = on_3 at_restore_byte b; is = is_on_3 at_restore_byte b o.0.0.p o.0.0.r3; follows = refl }
-follows e RestoreEnd b h o = record { same = on_3 at_restore_end b; is = is_on_3 at_restore_end b o.0.0.p o.0.0.r3; follows = refl }
+follows e (RestoreByte k) b h o = record { same = on_3 AT_RESTORE_BYTE b; is = is_on_3 AT_RESTORE_BYTE b o.0.0.p o.0.0.r3; follows = refl }
+follows e RestoreEnd b h o = record { same = on_3 AT_RESTORE_END b; is = is_on_3 AT_RESTORE_END b o.0.0.p o.0.0.r3; follows = refl }
 
 pub memory_addresses_run : MemoryAddresses memory_rom
 memory_addresses_run e l = runs_at e (both_is e) (both_fits e) (OfMemory l) (memory_block e l) (follows e l)

@@ -7,10 +7,9 @@ use Rattle.machine.specs.Memory.{read}
 use Rattle.machine.specs.Board.{Machine}
 use Rattle.machine.specs.Ranges.{FitsMachine}
 use Rattle.chip8_lang.specs.declared.view.Edition.{Edition}
-use Rattle.chip8_lang.specs.declared.view.Edition.TheVariants.{Usual, Tall}
 use Rattle.chip8_lang.specs.Editions.{memory_start, memory_end, stack_top, variables, sprite_work}
 use Rattle.chip8_lang.specs.State.{Lang, is_in_memory, is_in_font}
-use Rattle.chip8_image.specs.Labels.{at_halt, at_check, at_check_game, at_check_font, at_check_low, at_in_game, at_in_font, at_nowhere}
+use Rattle.chip8_image.specs.declared.image.labels.TheConstants.{AT_HALT, AT_CHECK, AT_CHECK_GAME, AT_CHECK_FONT, AT_CHECK_LOW, AT_IN_GAME, AT_IN_FONT, AT_NOWHERE}
 use Rattle.rom_law.specs.Code.{is_event}
 use Rattle.rom_law.proofs.Moves.{quicks, Reaches, reaches_in}
 use Rattle.rom_law.specs.Program.{Program, code}
@@ -27,7 +26,7 @@ use Rattle.rom_rows.specs.SpriteBlocks.SpriteBlock.{DrawFound}
 use Rattle.rom_rows.specs.Table.{calm_pieces, calm_top}
 use Rattle.rom_rows.specs.Table.Block.{OfMemory}
 use Rattle.rom_rows.proofs.Bits.{same_xor, xor_same, nonzero, is_zero, borrowed, not_borrowed}
-use Rattle.rom_rows.proofs.Bytes.{memory_end_is, variables_is, stack_top_is, page_fits}
+use Rattle.rom_rows.proofs.Bytes.{memory_end_is, variables_is, stack_top_is, page_fits, work_is as sprite_work_is}
 use Rattle.rom_rows.proofs.Times.{outside_low, outside_page, outside_other}
 use Rattle.rom_rows.proofs.Follows.{to_memory, to_sprite}
 use Rattle.rom_rows.proofs.Ways.{reached, forks}
@@ -79,7 +78,7 @@ found {e = e} ForRestore answer g o spent calm = to_memory (quick e) g _ calm (R
 found {e = e} ForDraw answer g o spent calm = to_sprite (quick e) g _ calm (DrawFound answer) tt o (omega (arith, spent))
 
 -- none of them is at the stop
-no_halt : (c : Caller) → (value (word_of (return_of c)) == at_halt) ≡ false
+no_halt : (c : Caller) → (value (word_of (return_of c)) == AT_HALT) ≡ false
 no_halt ForDecimal = refl
 no_halt ForStore = refl
 no_halt ForRestore = refl
@@ -121,11 +120,7 @@ module _ (e : Edition) (b : Machine) (h : Since) (f : FitsMachine b) (c : Caller
   below = omega (arith, variables_is e)
 
   work_there : sprite_work e ≡ work
-  work_there = go e
-    where
-      go : (e : Edition) → sprite_work e ≡ value (word (page_of e) 0xd0)
-      go Usual = refl
-      go Tall = refl
+  work_there = sprite_work_is e
 
   -- ---- is I at least FIRST
 
@@ -134,9 +129,9 @@ module _ (e : Edition) (b : Machine) (h : Since) (f : FitsMachine b) (c : Caller
   first_df = (b.regs.r.ra.hi + 256 - 2) / 256
 
   abbrev compared : Word → Machine
-  compared = on_at (quicks (code (quick e)) 10 (checking at_check b))
+  compared = on_at (quicks (code (quick e)) 10 (checking AT_CHECK b))
 
-  module _ (o : Checking (quick e) c at_check b (now h)) where
+  module _ (o : Checking (quick e) c AT_CHECK b (now h)) where
     checked_on : (a : ℕ) → Checking (quick e) c a (compared (word_of a)) (now h)
     checked_on a =
         record {
@@ -156,16 +151,16 @@ module _ (e : Edition) (b : Machine) (h : Since) (f : FitsMachine b) (c : Caller
 
     pub check_comes : h.spent ≡ call_time c → RunsBlock (quick e) (calm_pieces (quick e)) (OfMemory (Check c)) b h
     check_comes spent =
-        forks (OfMemory (Check c)) o.called.holds (checking at_check b) (is_checking o) compared (not (first_df == 1)) at_nowhere at_check_game
+        forks (OfMemory (Check c)) o.called.holds (checking AT_CHECK b) (is_checking o) compared (not (first_df == 1)) AT_NOWHERE AT_CHECK_GAME
         (omega arith) refl
         (λ k h' g. to_memory (quick e) g _ refl (Answering c Nowhere)
-        (checked_on at_nowhere, below_all e i asked (low k)) (omega (arith, spent, g.spent, outside_low i (low k))))
+        (checked_on AT_NOWHERE, below_all e i asked (low k)) (omega (arith, spent, g.spent, outside_low i (low k))))
         (λ k h' g. to_memory (quick e) g _ refl (CheckGame c) (
           record {
-            checking = checked_on at_check_game;
+            checking = checked_on AT_CHECK_GAME;
             pointer = refl;
             rc = refl;
-            low = ap (slice_index (compared (word_of at_check_game)).ram) work_there
+            low = ap (slice_index (compared (word_of AT_CHECK_GAME)).ram) work_there
                 ∙ work_is o.called.holds work b.regs.r.ra.lo below;
           },
           omega (arith, not_borrowed first_df k, i_is o.called.holds),
@@ -224,13 +219,13 @@ module _ (e : Edition) (b : Machine) (h : Since) (f : FitsMachine b) (c : Caller
   abbrev game_high : ℕ
   game_high = page_of e + 256 - b.regs.r.ra.hi - (1 - game_low / 256)
 
-  pub check_game_comes : (o : Comparing (quick e) c at_check_game b (now h)) → memory_start ≤ i → h.spent ≡ call_time c + 20
+  pub check_game_comes : (o : Comparing (quick e) c AT_CHECK_GAME b (now h)) → memory_start ≤ i → h.spent ≡ call_time c + 20
       → RunsBlock (quick e) (calm_pieces (quick e)) (OfMemory (CheckGame c)) b h
   check_game_comes o first spent =
       forks (OfMemory (CheckGame c)) o.checking.called.holds _ (is_comparing o) (left o (game_high % 256) (game_high / 256))
-      (game_high / 256 == 1) at_in_game at_check_font (omega (arith, steady o)) refl
+      (game_high / 256 == 1) AT_IN_GAME AT_CHECK_FONT (omega (arith, steady o)) refl
       (λ k h' g. to_memory (quick e) g _ refl (Answering c InGame) (
-        (leaves o (game_high % 256) (game_high / 256) at_in_game).checking,
+        (leaves o (game_high % 256) (game_high / 256) AT_IN_GAME).checking,
         in_memory e i asked first (omega (
           arith,
           eqb-true (game_high
@@ -248,7 +243,7 @@ module _ (e : Edition) (b : Machine) (h : Since) (f : FitsMachine b) (c : Caller
       (omega (arith, spent, g.spent)))
       (λ k h' g. to_memory (quick e) g _ refl (CheckFont c) (
         leaves o (game_high % 256) (game_high
-            / 256) at_check_font,
+            / 256) AT_CHECK_FONT,
         past_memory e i asked first (omega (
           arith,
           eqb-false (game_high
@@ -270,21 +265,21 @@ module _ (e : Edition) (b : Machine) (h : Since) (f : FitsMachine b) (c : Caller
   abbrev page_xor : ℕ
   page_xor = bit_xor b.regs.r.ra.hi 0x87
 
-  high_is : (o : Comparing (quick e) c at_check_font b (now h)) → i / 256 ≡ b.regs.r.ra.hi
+  high_is : (o : Comparing (quick e) c AT_CHECK_FONT b (now h)) → i / 256 ≡ b.regs.r.ra.hi
   high_is o = omega (arith, place o, f.regs.r.ra.lo)
 
-  pub check_font_comes : (o : Comparing (quick e) c at_check_font b (now h)) → is_in_memory e i asked ≡ false → memory_start ≤ i → h.spent ≡ call_time c + 32
+  pub check_font_comes : (o : Comparing (quick e) c AT_CHECK_FONT b (now h)) → is_in_memory e i asked ≡ false → memory_start ≤ i → h.spent ≡ call_time c + 32
       → RunsBlock (quick e) (calm_pieces (quick e)) (OfMemory (CheckFont c)) b h
   check_font_comes o outside first spent =
       forks (OfMemory (CheckFont c)) o.checking.called.holds _ (is_comparing o) (left o page_xor b.regs.df)
-      (not (page_xor == 0)) at_nowhere at_check_low (omega arith) refl
+      (not (page_xor == 0)) AT_NOWHERE AT_CHECK_LOW (omega arith) refl
       (λ k h' g. to_memory (quick e) g _ refl (Answering c Nowhere) (
-        (leaves o page_xor b.regs.df at_nowhere).checking,
+        (leaves o page_xor b.regs.df AT_NOWHERE).checking,
         (outside, other_page i asked (few o).0 (other k)),
       )
       (omega (arith, spent, g.spent, outside_other i first (other k))))
       (λ k h' g. to_memory (quick e) g _ refl (CheckLow c)
-      (leaves o page_xor b.regs.df at_check_low, outside, high_is o ∙ xor_same b.regs.r.ra.hi 0x87 (eq-eqb page_xor 0 (is_zero page_xor k)))
+      (leaves o page_xor b.regs.df AT_CHECK_LOW, outside, high_is o ∙ xor_same b.regs.r.ra.hi 0x87 (eq-eqb page_xor 0 (is_zero page_xor k)))
       (omega (arith, spent, g.spent)))
     where
       other : not (page_xor == 0) ≡ true → i / 256 ≡ 0x87 → ⊥
@@ -294,14 +289,14 @@ module _ (e : Edition) (b : Machine) (h : Since) (f : FitsMachine b) (c : Caller
   abbrev font_low : ℕ
   font_low = (0x50 + 256 - b.regs.r.re.lo) % 256 + 256 - read (both e) b.latch b.ram work
 
-  pub check_low_comes : (o : Comparing (quick e) c at_check_low b (now h)) → is_in_memory e i asked ≡ false → i / 256 ≡ 0x87
+  pub check_low_comes : (o : Comparing (quick e) c AT_CHECK_LOW b (now h)) → is_in_memory e i asked ≡ false → i / 256 ≡ 0x87
       → h.spent ≡ call_time c + 38 → RunsBlock (quick e) (calm_pieces (quick e)) (OfMemory (CheckLow c)) b h
   check_low_comes o outside page spent =
       forks (OfMemory (CheckLow c)) o.checking.called.holds _ (is_comparing o) (left o (font_low % 256) (font_low / 256))
-      (not (font_low / 256 == 1)) at_nowhere at_in_font (omega (arith, steady o)) refl
+      (not (font_low / 256 == 1)) AT_NOWHERE AT_IN_FONT (omega (arith, steady o)) refl
       (λ k h' g. to_memory (quick e) g _ refl (Answering c Nowhere) (
         (leaves o (font_low % 256) (font_low / 256)
-            at_nowhere).checking,
+            AT_NOWHERE).checking,
         (
           outside,
           past_font i asked (omega (arith, page)) (omega
@@ -311,7 +306,7 @@ module _ (e : Edition) (b : Machine) (h : Since) (f : FitsMachine b) (c : Caller
       (omega (arith, spent, g.spent, outside_page i page)))
       (λ k h' g. to_memory (quick e) g _ refl (Answering c InFont) (
         (leaves o (font_low % 256) (font_low / 256)
-            at_in_font).checking,
+            AT_IN_FONT).checking,
         (
           outside,
           in_font i asked (omega (arith, page)) (omega

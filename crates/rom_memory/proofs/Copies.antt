@@ -14,7 +14,7 @@ use Rattle.chip8_lang.specs.Editions.{memory_start, memory_end}
 use Rattle.chip8_lang.specs.State.{instr_at, is_in_memory, is_in_font, is_fetchable}
 use Rattle.chip8_lang.specs.Step.{next, stop_of, stored, bytes_from, is_readable}
 use Rattle.chip8_lang.specs.Timed.{outside_cycles, check_cycles}
-use Rattle.chip8_image.specs.Labels.{at_fetch, at_store, at_store_byte, at_store_end, at_restore, at_restore_byte, at_restore_end}
+use Rattle.chip8_image.specs.declared.image.labels.TheConstants.{AT_FETCH, AT_STORE, AT_STORE_BYTE, AT_STORE_END, AT_RESTORE, AT_RESTORE_BYTE, AT_RESTORE_END}
 use Rattle.rom_law.proofs.Moves.{quicks, reaches_in}
 use Rattle.rom_law.specs.Program.{code}
 use Rattle.rom_law.specs.Holding.{places, Holding}
@@ -60,7 +60,7 @@ module _ (e : Edition) (b : Machine) (h : Since) (f : FitsMachine b) where
   count_is : (bit_and high 15 + 1) % 256 ≡ last + 1
   count_is = rw (and_mask high 4) (omega arith)
 
-  pub store_comes : Enters (quick e) at_store 15 b (now h) → low_byte (now h) ≡ 0x55 → h.spent ≡ 128
+  pub store_comes : Enters (quick e) AT_STORE 15 b (now h) → low_byte (now h) ≡ 0x55 → h.spent ≡ 128
       → RunsBlock (quick e) (calm_pieces (quick e)) (OfMemory Store) b h
   store_comes o kk spent = routine (OfMemory Store) o.entered _ (omega arith) refl
       (λ h' g. to_memory (quick e) g _ refl (Check ForStore)
@@ -79,7 +79,7 @@ module _ (e : Edition) (b : Machine) (h : Since) (f : FitsMachine b) where
         count = count_is;
       }) (omega (arith, spent, g.spent)))
 
-  pub restore_comes : Enters (quick e) at_restore 15 b (now h) → low_byte (now h) ≡ 0x65 → h.spent ≡ 134
+  pub restore_comes : Enters (quick e) AT_RESTORE 15 b (now h) → low_byte (now h) ≡ 0x65 → h.spent ≡ 134
       → RunsBlock (quick e) (calm_pieces (quick e)) (OfMemory Restore) b h
   restore_comes o kk spent = routine (OfMemory Restore) o.entered _ (omega arith) refl
       (λ h' g. to_memory (quick e) g _ refl (Check ForRestore)
@@ -145,8 +145,8 @@ module _ (e : Edition) (b : Machine) (h : Since) (f : FitsMachine b) where
           d = 0xf0;
           p = 3;
           r = record b.regs.r {
-            r3 = word_of at_restore_byte;
-            r4 = word_of at_fetch;
+            r3 = word_of AT_RESTORE_BYTE;
+            r4 = word_of AT_FETCH;
             r6 = word (page_of e) (240 + high % 16);
             rd = word (page_of e) 0xf0;
           };
@@ -196,7 +196,7 @@ module _ (e : Edition) (b : Machine) (h : Since) (f : FitsMachine b) where
   -- ---- a turn
 
   abbrev turning : ℕ → ℕ → Machine
-  turning a k = record b { regs = record b.regs { p = 3; r = record b.regs.r { r3 = word_of a; r4 = word_of at_fetch; rd = word (page_of e) (0xf0 + k) } } }
+  turning a k = record b { regs = record b.regs { p = 3; r = record b.regs.r { r3 = word_of a; r4 = word_of AT_FETCH; rd = word (page_of e) (0xf0 + k) } } }
 
   -- R3 is changed
   abbrev on_at : Machine → Word → Machine
@@ -230,7 +230,7 @@ module _ (e : Edition) (b : Machine) (h : Since) (f : FitsMachine b) where
 
   -- at the end
   abbrev ending : ℕ → Machine
-  ending a = record b { regs = record b.regs { p = 3; r = record b.regs.r { r3 = word_of a; r4 = word_of at_fetch } } }
+  ending a = record b { regs = record b.regs { p = 3; r = record b.regs.r { r3 = word_of a; r4 = word_of AT_FETCH } } }
 
   past : i + (last + 1) ≡ i + last + 1
   past = omega arith
@@ -267,12 +267,12 @@ module _ (e : Edition) (b : Machine) (h : Since) (f : FitsMachine b) where
             ap (slice_set (stored (now h).memory (i - memory_start) (take k (now h).v)) (i - memory_start + k)) byte
             ∙ stored_next (now h).memory (i - memory_start) (now h).v k (omega (arith, small, v_length o.holds))
 
-  pub store_byte_comes : (k : ℕ) → Copying (quick e) ForStore at_store_byte (stored_to k (now h)) b (now h) → Turn (quick e) k b (now h)
+  pub store_byte_comes : (k : ℕ) → Copying (quick e) ForStore AT_STORE_BYTE (stored_to k (now h)) b (now h) → Turn (quick e) k b (now h)
       → is_in_memory e i (last + 1) ≡ true → h.spent ≡ 192 + 12 * k → RunsBlock (quick e) (calm_pieces (quick e)) (OfMemory (StoreByte k)) b h
   store_byte_comes k o t fits spent =
-      forks (OfMemory (StoreByte k)) o.holds (turning at_store_byte k)
+      forks (OfMemory (StoreByte k)) o.holds (turning AT_STORE_BYTE k)
       (λ j. record b { regs = record b.regs { p = o.p j; r = record b.regs.r { r3 = o.r3 j; r4 = o.r4 j; rd = t.rd j } } })
-      (on_at (quicks (code (quick e)) 6 (turning at_store_byte k))) (not (rest t == 0)) at_store_byte at_store_end
+      (on_at (quicks (code (quick e)) 6 (turning AT_STORE_BYTE k))) (not (rest t == 0)) AT_STORE_BYTE AT_STORE_END
       (omega (arith, o.holds.stack, stack_top_is e, place o fits t.left, room o fits t.left, t.left, memory_end_is e)) refl
       (λ n h' g. to_memory (quick e) g _ refl (StoreByte (suc k)) (
         record {
@@ -289,7 +289,7 @@ module _ (e : Edition) (b : Machine) (h : Since) (f : FitsMachine b) where
       (λ n h' g. to_memory (quick e) g _ refl StoreEnd (
         record {
           holds = subst (λ m. Holding (quick e)
-              (places (on_at (quicks (code (quick e)) 6 (turning at_store_byte k)) (word_of at_store_end))) (stored_to m (now h)))
+              (places (on_at (quicks (code (quick e)) 6 (turning AT_STORE_BYTE k)) (word_of AT_STORE_END))) (stored_to m (now h)))
               (done t n) (store_holds o fits t.left);
           inside = o.inside;
           calls = o.calls;
@@ -301,10 +301,10 @@ module _ (e : Edition) (b : Machine) (h : Since) (f : FitsMachine b) where
       )
       (omega (arith, spent, g.spent, none_left t n)))
 
-  pub store_end_comes : Copying (quick e) ForStore at_store_end (stored_to (last + 1) (now h)) b (now h) → is_in_memory e i (last + 1) ≡ true → h.spent ≡ 204 + 12 * last
+  pub store_end_comes : Copying (quick e) ForStore AT_STORE_END (stored_to (last + 1) (now h)) b (now h) → is_in_memory e i (last + 1) ≡ true → h.spent ≡ 204 + 12 * last
       → RunsBlock (quick e) (calm_pieces (quick e)) (OfMemory StoreEnd) b h
   store_end_comes o fits spent =
-      straight (OfMemory StoreEnd) o.holds (ending at_store_end)
+      straight (OfMemory StoreEnd) o.holds (ending AT_STORE_END)
       (λ j. record b { regs = record b.regs { p = o.p j; r = record b.regs.r { r3 = o.r3 j; r4 = o.r4 j } } }) _ (omega arith) refl
       (λ h' g. steps e g (IsStore last) is refl runs (omega (arith, spent)) tt _
       (subst (λ n. Holding (quick e) (places b) (record (stored_to (last + 1) (now h)) { i = n })) past o.holds) refl refl)
@@ -343,13 +343,13 @@ module _ (e : Edition) (b : Machine) (h : Since) (f : FitsMachine b) where
             (ap (read (both e) b.latch b.ram) source ∙ readable_get (both_font e) o.holds (i + k) readable)
             ∙ fetched_next (now h) i (now h).v k (omega (arith, left, fetched_length (now h) i k (now h).v, v_length o.holds))
 
-  pub restore_byte_comes : (k : ℕ) → Copying (quick e) ForRestore at_restore_byte (fetched_to k (now h)) b (now h) → Turn (quick e) k b (now h)
+  pub restore_byte_comes : (k : ℕ) → Copying (quick e) ForRestore AT_RESTORE_BYTE (fetched_to k (now h)) b (now h) → Turn (quick e) k b (now h)
       → is_readable e i (last + 1) ≡ true → h.spent ≡ 200 + check_cycles e (now h) (last + 1) + 12 * k
       → RunsBlock (quick e) (calm_pieces (quick e)) (OfMemory (RestoreByte k)) b h
   restore_byte_comes k o t fits spent =
-      forks (OfMemory (RestoreByte k)) o.holds (turning at_restore_byte k)
+      forks (OfMemory (RestoreByte k)) o.holds (turning AT_RESTORE_BYTE k)
       (λ j. record b { regs = record b.regs { p = o.p j; r = record b.regs.r { r3 = o.r3 j; r4 = o.r4 j; rd = t.rd j } } })
-      (on_at (quicks (code (quick e)) 6 (turning at_restore_byte k))) (not (rest t == 0)) at_restore_byte at_restore_end
+      (on_at (quicks (code (quick e)) 6 (turning AT_RESTORE_BYTE k))) (not (rest t == 0)) AT_RESTORE_BYTE AT_RESTORE_END
       (omega (arith, o.holds.stack, stack_top_is e, memory_end_is e, page_fits e, source o fits t.left, readable o fits t.left)) refl
       (λ n h' g. to_memory (quick e) g _ refl (RestoreByte (suc k)) (
         record {
@@ -366,7 +366,7 @@ module _ (e : Edition) (b : Machine) (h : Since) (f : FitsMachine b) where
       (λ n h' g. to_memory (quick e) g _ refl RestoreEnd (
         record {
           holds = subst (λ m. Holding (quick e)
-              (places (on_at (quicks (code (quick e)) 6 (turning at_restore_byte k)) (word_of at_restore_end))) (fetched_to m (now h)))
+              (places (on_at (quicks (code (quick e)) 6 (turning AT_RESTORE_BYTE k)) (word_of AT_RESTORE_END))) (fetched_to m (now h)))
               (done t n) (restore_holds o fits t.left);
           inside = o.inside;
           calls = o.calls;
@@ -378,10 +378,10 @@ module _ (e : Edition) (b : Machine) (h : Since) (f : FitsMachine b) where
       )
       (omega (arith, spent, g.spent, none_left t n)))
 
-  pub restore_end_comes : Copying (quick e) ForRestore at_restore_end (fetched_to (last + 1) (now h)) b (now h) → is_readable e i (last + 1) ≡ true
+  pub restore_end_comes : Copying (quick e) ForRestore AT_RESTORE_END (fetched_to (last + 1) (now h)) b (now h) → is_readable e i (last + 1) ≡ true
       → h.spent ≡ 212 + check_cycles e (now h) (last + 1) + 12 * last → RunsBlock (quick e) (calm_pieces (quick e)) (OfMemory RestoreEnd) b h
   restore_end_comes o fits spent =
-      straight (OfMemory RestoreEnd) o.holds (ending at_restore_end)
+      straight (OfMemory RestoreEnd) o.holds (ending AT_RESTORE_END)
       (λ j. record b { regs = record b.regs { p = o.p j; r = record b.regs.r { r3 = o.r3 j; r4 = o.r4 j } } }) _ (omega arith) refl
       (λ h' g. steps e g (IsFetch last) is refl runs (omega (arith, spent)) tt _
       (subst (λ n. Holding (quick e) (places b) (record (fetched_to (last + 1) (now h)) { i = n })) past o.holds) refl refl)

@@ -13,7 +13,7 @@ use Rattle.chip8_lang.specs.Editions.{memory_start, memory_end}
 use Rattle.chip8_lang.specs.State.{Lang, instr_at, is_in_memory, is_fetchable}
 use Rattle.chip8_lang.specs.Step.{next, stop_of, stored, digits}
 use Rattle.chip8_lang.specs.Timed.{outside_cycles}
-use Rattle.chip8_image.specs.Labels.{at_fetch, at_decimal, at_hundreds, at_hundreds_end, at_tens, at_tens_end}
+use Rattle.chip8_image.specs.declared.image.labels.TheConstants.{AT_FETCH, AT_DECIMAL, AT_HUNDREDS, AT_HUNDREDS_END, AT_TENS, AT_TENS_END}
 use Rattle.rom_law.proofs.Moves.{reaches_in}
 use Rattle.rom_law.specs.Program.{Program, code}
 use Rattle.rom_law.specs.Holding.{Places, places, Holding}
@@ -67,7 +67,7 @@ module _ (e : Edition) (b : Machine) (h : Since) (f : FitsMachine b) where
 
   -- ---- up to the loops
 
-  pub decimal_comes : Enters (quick e) at_decimal 15 b (now h) → low_byte (now h) ≡ 0x33 → h.spent ≡ 122
+  pub decimal_comes : Enters (quick e) AT_DECIMAL 15 b (now h) → low_byte (now h) ≡ 0x33 → h.spent ≡ 122
       → RunsBlock (quick e) (calm_pieces (quick e)) (OfMemory Decimal) b h
   decimal_comes o kk spent = routine (OfMemory Decimal) o.entered _ (omega arith) refl
       (λ h' g. to_memory (quick e) g _ refl (Check ForDecimal)
@@ -154,23 +154,23 @@ module _ (e : Edition) (b : Machine) (h : Since) (f : FitsMachine b) where
           d = is_d;
         }
 
-  pub hundreds_comes : (k : ℕ) → Dividing (quick e) at_hundreds k 0 (vx - k * 100) b (now h) → k * 100 ≤ vx → h.spent ≡ 190 + 6 * k
+  pub hundreds_comes : (k : ℕ) → Dividing (quick e) AT_HUNDREDS k 0 (vx - k * 100) b (now h) → k * 100 ≤ vx → h.spent ≡ 190 + 6 * k
       → RunsBlock (quick e) (calm_pieces (quick e)) (OfMemory (Hundreds k)) b h
   hundreds_comes k o left spent =
-      forks (OfMemory (Hundreds k)) o.called.holds (on_3 at_hundreds b) (is_on_3 at_hundreds b o.p o.r3) (lowered o 100 (up b.regs.r.rd) b.regs.r.re)
-      (lessened o 100 / 256 == 1) at_hundreds at_hundreds_end (omega arith) refl
+      forks (OfMemory (Hundreds k)) o.called.holds (on_3 AT_HUNDREDS b) (is_on_3 AT_HUNDREDS b o.p o.r3) (lowered o 100 (up b.regs.r.rd) b.regs.r.re)
+      (lessened o 100 / 256 == 1) AT_HUNDREDS AT_HUNDREDS_END (omega arith) refl
       (λ t h' g. let more = taken vx 100 k b.regs.d (fits o) (omega arith) (omega arith) left o.d (eqb-true (lessened o 100 / 256) 1 t) in
       to_memory (quick e) g _ refl (Hundreds (suc k))
-      (goes_on o 100 _ _ at_hundreds (suc k) 0 (vx - suc k * 100) (omega (arith, o.rd, left, fits o)) o.re more.1, more.0)
+      (goes_on o 100 _ _ AT_HUNDREDS (suc k) 0 (vx - suc k * 100) (omega (arith, o.rd, left, fits o)) o.re more.1, more.0)
       (omega (arith, spent, g.spent)))
       (λ t h' g. let all = counted vx 100 k b.regs.d (fits o) (omega arith) (omega arith) left o.d (eqb-false (lessened o 100 / 256) 1 t) in
       to_memory (quick e) g _ refl HundredsEnd
-      (goes_on o 100 _ _ at_hundreds_end (vx / 100 + 1) 0 (vx % 100 + 156) (omega (arith, o.rd, all.0, fits o)) o.re (omega (arith, all.1)))
+      (goes_on o 100 _ _ AT_HUNDREDS_END (vx / 100 + 1) 0 (vx % 100 + 156) (omega (arith, o.rd, all.0, fits o)) o.re (omega (arith, all.1)))
       (omega (arith, spent, g.spent, o.rd, all.0, fits o, left)))
 
-  pub hundreds_end_comes : Dividing (quick e) at_hundreds_end (vx / 100 + 1) 0 (vx % 100 + 156) b (now h) → h.spent ≡ 196 + 6 * (vx / 100)
+  pub hundreds_end_comes : Dividing (quick e) AT_HUNDREDS_END (vx / 100 + 1) 0 (vx % 100 + 156) b (now h) → h.spent ≡ 196 + 6 * (vx / 100)
       → RunsBlock (quick e) (calm_pieces (quick e)) (OfMemory HundredsEnd) b h
-  hundreds_end_comes o spent = straight (OfMemory HundredsEnd) o.called.holds (on_3 at_hundreds_end b) (is_on_3 at_hundreds_end b o.p o.r3) _ (omega arith) refl
+  hundreds_end_comes o spent = straight (OfMemory HundredsEnd) o.called.holds (on_3 AT_HUNDREDS_END b) (is_on_3 AT_HUNDREDS_END b o.p o.r3) _ (omega arith) refl
       (λ h' g. to_memory (quick e) g _ refl (Tens 0) (
         record {
           called = record {
@@ -192,25 +192,25 @@ module _ (e : Edition) (b : Machine) (h : Since) (f : FitsMachine b) where
         omega arith,
       ) (omega (arith, spent, g.spent)))
 
-  pub tens_comes : (k : ℕ) → Dividing (quick e) at_tens (vx / 100) k (vx % 100 - k * 10) b (now h) → k * 10 ≤ vx % 100 → h.spent ≡ 200 + 6 * (vx / 100) + 6 * k
+  pub tens_comes : (k : ℕ) → Dividing (quick e) AT_TENS (vx / 100) k (vx % 100 - k * 10) b (now h) → k * 10 ≤ vx % 100 → h.spent ≡ 200 + 6 * (vx / 100) + 6 * k
       → RunsBlock (quick e) (calm_pieces (quick e)) (OfMemory (Tens k)) b h
   tens_comes k o left spent =
-      forks (OfMemory (Tens k)) o.called.holds (on_3 at_tens b) (is_on_3 at_tens b o.p o.r3) (lowered o 10 b.regs.r.rd (up b.regs.r.re))
-      (lessened o 10 / 256 == 1) at_tens at_tens_end (omega arith) refl
+      forks (OfMemory (Tens k)) o.called.holds (on_3 AT_TENS b) (is_on_3 AT_TENS b o.p o.r3) (lowered o 10 b.regs.r.rd (up b.regs.r.re))
+      (lessened o 10 / 256 == 1) AT_TENS AT_TENS_END (omega arith) refl
       (λ t h' g. let more = taken (vx % 100) 10 k b.regs.d (omega arith) (omega arith) (omega arith) left o.d (eqb-true (lessened o 10 / 256) 1 t) in
       to_memory (quick e) g _ refl (Tens (suc k))
-      (goes_on o 10 _ _ at_tens (vx / 100) (suc k) (vx % 100 - suc k * 10) o.rd (omega (arith, o.re, left)) more.1, more.0)
+      (goes_on o 10 _ _ AT_TENS (vx / 100) (suc k) (vx % 100 - suc k * 10) o.rd (omega (arith, o.re, left)) more.1, more.0)
       (omega (arith, spent, g.spent)))
       (λ t h' g. let all =
       counted (vx % 100) 10 k b.regs.d (omega arith) (omega arith) (omega arith) left o.d (eqb-false (lessened o 10 / 256) 1 t) in
       to_memory (quick e) g _ refl TensEnd
-      (goes_on o 10 _ _ at_tens_end (vx / 100) (vx / 10 % 10 + 1) (vx % 10 + 246) o.rd (omega (arith, o.re, all.0)) (omega (arith, all.1)))
+      (goes_on o 10 _ _ AT_TENS_END (vx / 100) (vx / 10 % 10 + 1) (vx % 10 + 246) o.rd (omega (arith, o.re, all.0)) (omega (arith, all.1)))
       (omega (arith, spent, g.spent, o.re, all.0, left)))
 
   -- ---- the digits are written
 
   abbrev ending : Machine
-  ending = record b { regs = record b.regs { p = 3; r = record b.regs.r { r3 = word_of at_tens_end; r4 = word_of at_fetch; rc = b.regs.r.ra } } }
+  ending = record b { regs = record b.regs { p = 3; r = record b.regs.r { r3 = word_of AT_TENS_END; r4 = word_of AT_FETCH; rc = b.regs.r.ra } } }
 
   abbrev tens : ℕ
   tens = (b.regs.r.re.lo + 255) % 256
@@ -226,7 +226,7 @@ module _ (e : Edition) (b : Machine) (h : Since) (f : FitsMachine b) where
             (value (up (up b.regs.r.ra))) ones;
       }
 
-  pub tens_end_comes : Dividing (quick e) at_tens_end (vx / 100) (vx / 10 % 10 + 1) (vx % 10 + 246) b (now h)
+  pub tens_end_comes : Dividing (quick e) AT_TENS_END (vx / 100) (vx / 10 % 10 + 1) (vx % 10 + 246) b (now h)
       → h.spent ≡ 206 + 6 * (vx / 100 + vx / 10 % 10) → RunsBlock (quick e) (calm_pieces (quick e)) (OfMemory TensEnd) b h
   tens_end_comes o spent =
       straight (OfMemory TensEnd) o.called.holds ending

@@ -7,7 +7,7 @@ use Rattle.chip8_lang.specs.declared.view.Edition.{Edition}
 use Rattle.chip8_lang.specs.declared.view.Stop.{Stop}
 use Rattle.chip8_lang.specs.State.{Lang}
 use Rattle.chip8_lang.specs.Step.{stop_of, stop_number}
-use Rattle.chip8_image.specs.Labels.{at_fetch, at_leave83}
+use Rattle.chip8_image.specs.declared.image.labels.TheConstants.{AT_FETCH, AT_LEAVE83}
 use Rattle.rom_law.proofs.Moves.{Reaches}
 use Rattle.rom_law.specs.Program.{code}
 use Rattle.rom_law.specs.Rows.{Since, now}
@@ -27,7 +27,7 @@ resumed e c high d b =
       regs = record b.regs {
         d = d;
         p = 3;
-        r = record b.regs.r { r3 = word_of (return_of c); r4 = word_of at_fetch; r6 = word (page_of e) (240 + high % 16) };
+        r = record b.regs.r { r3 = word_of (return_of c); r4 = word_of AT_FETCH; r6 = word (page_of e) (240 + high % 16) };
       };
     }
 
@@ -38,7 +38,7 @@ refusing e c high stop b =
       regs = record b.regs {
         d = stop_number stop;
         p = 3;
-        r = record b.regs.r { r3 = word_of at_leave83; r4 = word_of at_fetch; r6 = word (page_of e) (240 + high % 16) };
+        r = record b.regs.r { r3 = word_of AT_LEAVE83; r4 = word_of AT_FETCH; r6 = word (page_of e) (240 + high % 16) };
       };
     }
 

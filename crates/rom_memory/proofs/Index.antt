@@ -11,7 +11,7 @@ use Rattle.chip8_lang.specs.declared.view.Edition.{Edition}
 use Rattle.chip8_lang.specs.Editions.{font_start, stack_top, variables}
 use Rattle.chip8_lang.specs.State.{Lang, instr_at}
 use Rattle.chip8_lang.specs.Step.{next, stop_of}
-use Rattle.chip8_image.specs.Labels.{at_index, at_add_index, at_digit}
+use Rattle.chip8_image.specs.declared.image.labels.TheConstants.{AT_INDEX, AT_ADD_INDEX, AT_DIGIT}
 use Rattle.rom_law.specs.Holding.{Places, Holding}
 use Rattle.rom_law.specs.Rows.{Since, now}
 use Rattle.rom_law.proofs.Places.{v_get, v_byte, i_is, i_set, work_set, work_get}
@@ -44,7 +44,7 @@ module _ (e : Edition) (b : Machine) (h : Since) (f : FitsMachine b) where
 
   -- ---- AMMM
 
-  pub index_comes : Enters (quick e) at_index 10 b (now h) → h.spent ≡ 80 → RunsBlock (quick e) (calm_pieces (quick e)) (OfMemory Index) b h
+  pub index_comes : Enters (quick e) AT_INDEX 10 b (now h) → h.spent ≡ 80 → RunsBlock (quick e) (calm_pieces (quick e)) (OfMemory Index) b h
   index_comes o spent =
       routine (OfMemory Index) o.entered _ (omega arith) refl
       (λ h' g. steps e g (IsIndex (high % 16 * 256 + low)) is refl runs (omega (arith, spent)) tt _
@@ -65,7 +65,7 @@ module _ (e : Edition) (b : Machine) (h : Since) (f : FitsMachine b) where
   abbrev byte : ℕ
   byte = read (both e) b.latch b.ram (value (word (page_of e) (240 + high % 16)))
 
-  pub add_index_comes : Enters (quick e) at_add_index 15 b (now h) → low ≡ 0x1e → h.spent ≡ 110
+  pub add_index_comes : Enters (quick e) AT_ADD_INDEX 15 b (now h) → low ≡ 0x1e → h.spent ≡ 110
       → RunsBlock (quick e) (calm_pieces (quick e)) (OfMemory AddIndex) b h
   add_index_comes o kk spent =
       routine (OfMemory AddIndex) o.entered _ (omega (arith, o.entered.holds.stack, stack_top_is e)) refl
@@ -88,7 +88,7 @@ module _ (e : Edition) (b : Machine) (h : Since) (f : FitsMachine b) where
   abbrev work : ℕ
   work = value (word (page_of e) 0xd0)
 
-  pub digit_comes : Enters (quick e) at_digit 15 b (now h) → low ≡ 0x29 → h.spent ≡ 116 → RunsBlock (quick e) (calm_pieces (quick e)) (OfMemory Digit) b h
+  pub digit_comes : Enters (quick e) AT_DIGIT 15 b (now h) → low ≡ 0x29 → h.spent ≡ 116 → RunsBlock (quick e) (calm_pieces (quick e)) (OfMemory Digit) b h
   digit_comes o kk spent =
       routine (OfMemory Digit) o.entered _ (omega (arith, o.entered.holds.stack, stack_top_is e)) refl
       (λ h' g. steps e g (Font (high % 16)) is refl runs (omega (arith, spent)) tt _

@@ -2,7 +2,6 @@
 use Rattle.std.proofs.Common.{◌≡◌, ℕ, refl, List}
 use Rattle.machine.specs.Ranges.{FitsRom}
 use Rattle.chip8_lang.specs.declared.view.Edition.{Edition}
-use Rattle.chip8_lang.specs.declared.view.Edition.TheVariants.{Usual, Tall}
 use Rattle.rom_law.specs.Program.{Program}
 use Rattle.rom_rows.specs.Rom.{program_of}
 use Rattle.rom_rows.proofs.Bytes.{with_part, with_part_is, with_part_fits}
@@ -23,5 +22,4 @@ pub both_fits : (e : Edition) → FitsRom (both e)
 both_fits = with_part_fits memory_code refl
 
 pub both_font : (e : Edition) → HasFont (both e)
-both_font Usual = refl
-both_font Tall = refl
+both_font e = refl

@@ -6,7 +6,7 @@ use Rattle.rom_rows.specs.Rom.{program_of}
 use Rattle.rom_rows.specs.MemoryBlocks.{MemoryBlock}
 use Rattle.rom_rows.specs.Table.{BlockRows}
 use Rattle.rom_rows.specs.Table.Block.{OfMemory}
-use Rattle.rom_rows.specs.Addresses.{RunsAt, Covers}
+use Rattle.rom_rows.specs.Addresses.{RunsAt, AllInBlocks}
 
 -- every main move keeps the rows of AMMM, FX1E, FX29, FX33, FX55, FX65 and of the range check, in both editions
 abbrev pub MemoryRows : (Edition → List ℕ) → Type 0
@@ -18,4 +18,4 @@ MemoryAddresses rom = (e : Edition) (l : MemoryBlock) → RunsAt (program_of e (
 
 -- and each instruction of that code is in some block
 abbrev pub MemoryCovers : Type 0
-MemoryCovers = Covers Memory
+MemoryCovers = AllInBlocks Memory

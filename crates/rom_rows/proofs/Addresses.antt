@@ -16,7 +16,7 @@ use Rattle.rom_law.proofs.Kept.{RunsBlock, block_at}
 use Rattle.rom_rows.specs.Rom.{program_of}
 use Rattle.rom_rows.specs.Blocks.{addresses}
 use Rattle.rom_rows.specs.Table.{Block, Place, Head, data_of, moves, pieces, calm_pieces}
-use Rattle.rom_rows.specs.Addresses.{RunsAt, Piece, part_of_piece, addresses_of, IsIn, begins, areas_with_blocks, Covers}
+use Rattle.rom_rows.specs.Addresses.{RunsAt, Piece, part_of_piece, addresses_of, IsIn, begins, areas_with_blocks, AllInBlocks}
 use Rattle.rom_rows.specs.Addresses.Piece.{OfBlock, OfPlace}
 use Rattle.rom_rows.proofs.Calm.{comes_calm}
 use Rattle.rom_rows.proofs.Sounds.{sound}
@@ -124,5 +124,5 @@ module _ (p : Part) where
   all_are pieces (a ∷ l) e (suc i) m = all_are pieces l (and_parts (found p pieces a) (all_found p pieces l) e).1 i (omega (arith, m))
 
   -- every instruction of the part's code that has blocks is in one of these
-  pub covers : (pieces : List Piece) → all_found p pieces (begins (areas_with_blocks p)) ≡ true → Covers p
+  pub covers : (pieces : List Piece) → all_found p pieces (begins (areas_with_blocks p)) ≡ true → AllInBlocks p
   covers pieces e = all_are pieces (begins (areas_with_blocks p)) e

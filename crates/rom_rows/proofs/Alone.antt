@@ -10,7 +10,7 @@ use Rattle.chip8_lang.specs.State.{Lang}
 use Rattle.rom_law.specs.Code.{Input, moved}
 use Rattle.rom_law.proofs.Moves.{opcode_in, in_rom, quicks, quick_any, quick_by, quick_by_is, flags_in, opcode_is}
 use Rattle.rom_law.specs.Holding.{places, Holding}
-use Rattle.rom_law.specs.Moments.{Meets, Sees}
+use Rattle.rom_law.specs.Moments.{TicksBefore, Sees}
 use Rattle.rom_law.specs.Program.{code}
 use Rattle.rom_law.specs.Rows.{Since, Grows, Ends, after_main}
 use Rattle.rom_law.proofs.Kept.{RunsPlace}
@@ -24,7 +24,7 @@ pub one_more : (u : Input) (h : Since) → Grows h 1 0 (after_main u h)
 one_more u h = record { from = refl; state = refl; ticks = omega arith; spent = omega arith; more = u.held ∷ []; keys = refl; count = refl; moments = λ m a. inr a }
 
 -- at it all ticks so far had come, and it found its key so
-pub meets_now : (u : Input) (h : Since) (k : ℕ) → h.spent ≡ k → Meets (after_main u h).moments k h.ticks
+pub meets_now : (u : Input) (h : Since) (k : ℕ) → h.spent ≡ k → TicksBefore (after_main u h).moments k h.ticks
 meets_now u h k at = record { moment = record { spent = h.spent; ticks = h.ticks; held = u.held }; among = inl refl; at = at; after = refl }
 
 pub sees_now : (u : Input) (h : Since) (k key : ℕ) (down : Bool) → h.spent ≡ k → u.held key ≡ down → Sees (after_main u h).moments k key down

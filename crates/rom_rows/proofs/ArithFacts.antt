@@ -1,12 +1,12 @@
 -- What holds of the blocks of 0MMM, of jumps and calls, of loads, of skips and of 8XYN.
-use Rattle.std.proofs.Common.{◌≡◌, ℕ, ◌<◌, ◌≤◌, inl, refl, arith, true}
+use Rattle.std.proofs.Common.{ℕ, ◌<◌, ◌≤◌, inl, refl, arith, true}
 use Rattle.std.specs.Prelude.{nat_le}
 use Rattle.std.proofs.lemmas.Bool.{agree_below_at, leb-true}
 use Rattle.chip8_image.specs.declared.parts.Part.TheVariants.{Arith as IsArith}
 use Rattle.chip8_lang.specs.Step.{next}
 use Rattle.rom_law.specs.Rows.{now}
 use Rattle.rom_rows.specs.Blocks.{addresses}
-use Rattle.rom_rows.specs.ArithBlocks.{ArithBlock, arith_data, operation_lengths}
+use Rattle.rom_rows.specs.ArithBlocks.{ArithBlock, arith_data}
 use Rattle.rom_rows.specs.ArithBlocks.ArithBlock.{System, SystemLow, SystemBack, MachineCode, Return, ReturnTake, Empty, JumpTo, Call, CallPut, Full, JumpPlus, Load, Add, SkipEq, SkipNe, SkipSame, SameTest, SkipDiffer, DifferTest, NoSkip, Skip, Unknown81, Arith, Operation, Flag, Unknown82}
 use Rattle.rom_rows.specs.Table.{moves}
 use Rattle.rom_rows.specs.Table.Block.{OfArith}

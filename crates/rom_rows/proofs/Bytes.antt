@@ -1,16 +1,18 @@
 -- Both ROMs as one list, so that code is run by computing for both editions at once: a byte in which they differ is a choice by the
 -- edition.
-use Rattle.std.proofs.Common.{◌≡◌, ℕ, zero, suc, ◌+◌, ◌*◌, ◌<◌, refl, ap, lit<, Bool, true, ◌&&◌, List, [], ◌∷◌, length, cond, slice_index, nat_lt}
-use Rattle.std.specs.Prelude.{◌==◌}
+use Rattle.std.proofs.Common.{◌≡◌, ℕ, zero, suc, ◌+◌, ◌*◌, ◌%◌, ◌<◌, refl, ap, arith, lit<, Bool, true, ◌&&◌, List, [], ◌∷◌, length, cond, slice_index, nat_lt}
+use Rattle.std.specs.Prelude.{◌==◌, bit_and}
+use Rattle.std.proofs.lemmas.Nat.{and_mask}
+use Rattle.machine.specs.Bank.{word, word_of}
 use Rattle.std.proofs.lemmas.Bool.{and_parts, eqb-true, ltb-true}
 use Rattle.machine.specs.Ranges.{FitsRom}
 use Rattle.chip8_lang.specs.declared.view.Edition.{Edition}
 use Rattle.chip8_lang.specs.declared.view.Edition.TheVariants.{Usual, Tall}
-use Rattle.chip8_lang.specs.Editions.{memory_end, stack_top, variables}
+use Rattle.chip8_lang.specs.Editions.{memory_end, stack_top, sprite_work, variables, screen_start, rows_of}
 use Rattle.chip8_image.specs.declared.image.TheConstants.{IMAGE, TALL}
 use Rattle.rom_law.specs.Program.{Program}
 use Rattle.rom_rows.specs.Rom.{Stretch, image, laid, program_of}
-use Rattle.rom_rows.specs.Heads.{by_edition, page_of}
+use Rattle.rom_rows.specs.Heads.{by_edition, page_of, screen_page}
 
 abbrev pub joined : Edition → List ℕ → List ℕ → List ℕ
 joined e [] l = []
@@ -92,3 +94,32 @@ stack_top_is Tall = refl
 pub variables_is : (e : Edition) → variables e ≡ page_of e * 256 + 0xf0
 variables_is Usual = refl
 variables_is Tall = refl
+
+pub work_is : (e : Edition) → sprite_work e ≡ page_of e * 256 + 0xd0
+work_is Usual = refl
+work_is Tall = refl
+
+pub screen_is : (e : Edition) → screen_start e ≡ page_of e * 256 + 256
+screen_is Usual = refl
+screen_is Tall = refl
+
+pub screen_word : (e : Edition) → word (screen_page e) 0 ≡ word_of (screen_start e)
+screen_word Usual = refl
+screen_word Tall = refl
+
+pub screen_page_is : (e : Edition) → screen_page e ≡ page_of e + 1
+screen_page_is Usual = refl
+screen_page_is Tall = refl
+
+-- the rows of the screen, as the code has their number, and the mask of a row
+pub rows_byte : (e : Edition) → by_edition e 32 64 ≡ rows_of e
+rows_byte Usual = refl
+rows_byte Tall = refl
+
+pub rows_mask : (e : Edition) (v : ℕ) → bit_and v (by_edition e 31 63) ≡ v % rows_of e
+rows_mask Usual v = and_mask v 5
+rows_mask Tall v = and_mask v 6
+
+pub below_rows : (e : Edition) (v : ℕ) → v % rows_of e < rows_of e
+below_rows Usual v = omega arith
+below_rows Tall v = omega arith

@@ -7,7 +7,7 @@ use Rattle.machine.specs.Ranges.{FitsMachine}
 use Rattle.chip8_lang.specs.declared.view.Edition.{Edition}
 use Rattle.chip8_lang.specs.Editions.{memory_end}
 use Rattle.chip8_lang.specs.State.{Lang, is_fetchable}
-use Rattle.chip8_image.specs.Labels.{at_fetch}
+use Rattle.chip8_image.specs.declared.image.labels.TheConstants.{AT_FETCH}
 use Rattle.rom_law.specs.Program.{Program}
 use Rattle.rom_law.specs.Holding.{places, Holding}
 use Rattle.rom_law.specs.Rows.{Ready}
@@ -42,7 +42,7 @@ entered e a high low b =
             p = 3;
             r = record b.regs.r {
               r3 = word_of a;
-              r4 = word_of at_fetch;
+              r4 = word_of AT_FETCH;
               r6 = word (page_of e) (240 + high % 16);
               r7 = word (page_of e) (240 + low / 16);
               rc = word high low;

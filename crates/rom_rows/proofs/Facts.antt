@@ -1,5 +1,5 @@
 -- What holds of each block and place, once for all laws of the whole ROM. The table of a part's has one of these records for each.
-use Rattle.std.proofs.Common.{◌≡◌, ℕ, suc, zero, ◌<◌, ◌≤◌, ◌⊎◌, inl, inr, refl, arith, Bool, true, false, ◌&&◌, List, [], ◌∷◌, length, slice_index}
+use Rattle.std.proofs.Common.{◌≡◌, ℕ, suc, zero, ◌<◌, ◌≤◌, ◌⊎◌, inl, refl, arith, Bool, true, ◌&&◌, List, [], ◌∷◌, length, slice_index}
 use Rattle.std.specs.Prelude.{nat_le}
 use Rattle.std.proofs.lemmas.Bool.{and_parts, leb-true}
 use Rattle.machine.specs.Board.{Machine}
@@ -51,8 +51,8 @@ IsEndlessAt _ = ⊥
 -- ---- blocks
 
 -- where the head is known, this is so
-abbrev pub Known : Knows → (Program → Machine → Lang → Type 0) → Type 0
-Known at P = (x : Program) (b : Machine) (s : Lang) (sets : List Keys) → at x b s sets → P x b s
+abbrev pub Entails : Knows → (Program → Machine → Lang → Type 0) → Type 0
+Entails at P = (x : Program) (b : Machine) (s : Lang) (sets : List Keys) → at x b s sets → P x b s
 
 -- some language state lies in the machine
 abbrev pub Lies : Program → Machine → Lang → Type 0
@@ -60,19 +60,19 @@ Lies x b s = (z : Lang) × Holding x (places b) z
 
 pub record BlockFacts (l : Block) : Type 0 where
   -- its instructions lie in its part of the ROM, and it is short, but for the end of the fetch
-  pub lie : Known (data_of l).at (λ x b s. lie_in (part_of_block l) (addresses (data_of l)) ≡ true)
-  pub short : Known (data_of l).at (λ x b s. (moves l ≤ 22) ⊎ (l ≡ OfFetch Inside))
-  pub holds : Known (data_of l).at Lies
+  pub lie : Entails (data_of l).at (λ x b s. lie_in (part_of_block l) (addresses (data_of l)) ≡ true)
+  pub short : Entails (data_of l).at (λ x b s. (moves l ≤ 22) ⊎ (l ≡ OfFetch Inside))
+  pub holds : Entails (data_of l).at Lies
   -- before a wait the screen is that of the state at the row
-  pub screen : IsBefore l → Known (data_of l).at SameScreen
+  pub screen : IsBefore l → Entails (data_of l).at SameScreen
   -- and the next event comes in time
   pub haste : (x : Program) (b : Machine) (h : Since) → FitsMachine b → Head x l b h → Haste x.edition (IsEndless l) h (moves l)
 
 -- the same of a place
 pub record PlaceFacts (l : Place) : Type 0 where
   pub lies : is_part (part_of_place l) (part_of (place_data_of l).address) ≡ true
-  pub stack : Known (place_data_of l).at (λ x b s. (p : Places) × (z : Lang) × Holding x p z × (p.r2 ≡ b.regs.r.r2))
-  pub screen : Known (place_data_of l).at SameScreen
+  pub stack : Entails (place_data_of l).at (λ x b s. (p : Places) × (z : Lang) × Holding x p z × (p.r2 ≡ b.regs.r.r2))
+  pub screen : Entails (place_data_of l).at SameScreen
   pub haste : (x : Program) (b : Machine) (h : Since) → At x l b h → Haste x.edition (IsEndlessAt l) h 1
 
 -- ---- what most have in common
@@ -90,7 +90,7 @@ module _ (l : Block) (short : is_short l ≡ true) where
   parts = and_parts (lie_in (part_of_block l) (addresses (data_of l))) (nat_le (moves l) 22) short
 
   -- a state with these pixels lies there
-  pub showing : Known (data_of l).at Lies → (IsBefore l → Known (data_of l).at SameScreen) → Hastes l → BlockFacts l
+  pub showing : Entails (data_of l).at Lies → (IsBefore l → Entails (data_of l).at SameScreen) → Hastes l → BlockFacts l
   showing holds screen haste =
       record {
         lie = λ x b s sets o. parts.0;
@@ -101,12 +101,12 @@ module _ (l : Block) (short : is_short l ≡ true) where
       }
 
   -- the state with pc past the opcode does
-  pub passed : Known (data_of l).at (λ x b s. Holding x (places b) (next s)) → Hastes l → BlockFacts l
+  pub passed : Entails (data_of l).at (λ x b s. Holding x (places b) (next s)) → Hastes l → BlockFacts l
   passed holds haste = showing (λ x b s sets o. (next s, holds x b s sets o)) (λ n x b s sets o. past x b s (holds x b s sets o)) haste
 
 -- so it does at a place
 pub at_passed : (l : Place) → is_part (part_of_place l) (part_of (place_data_of l).address) ≡ true
-    → Known (place_data_of l).at (λ x b s. Holding x (places b) (next s))
+    → Entails (place_data_of l).at (λ x b s. Holding x (places b) (next s))
     → ((x : Program) (b : Machine) (h : Since) → At x l b h → Haste x.edition (IsEndlessAt l) h 1) → PlaceFacts l
 at_passed l lies holds haste =
     record {

@@ -1,5 +1,5 @@
 -- What holds of the blocks of the fetch, of the tests of FXKK, and of the stops.
-use Rattle.std.proofs.Common.{◌≡◌, ◌⊎◌, inl, inr, refl, arith, true}
+use Rattle.std.proofs.Common.{inl, inr, refl, arith, true}
 use Rattle.std.proofs.lemmas.Bool.{agree_below_at}
 use Rattle.rom_law.specs.Rows.{now}
 use Rattle.rom_rows.specs.Blocks.{addresses}

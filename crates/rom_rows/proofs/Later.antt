@@ -1,5 +1,5 @@
 -- What is known at the entry of a routine outlasts ticks.
-use Rattle.std.proofs.Common.{◌≡◌, ℕ, zero, suc, ◌+◌, ◌/◌, ◌%◌, refl, sym, ◌∙◌, ap, subst, Bool, ◌*◌, ◌<◌, ◌≤◌, not, arith, lit<}
+use Rattle.std.proofs.Common.{◌≡◌, ℕ, zero, suc, ◌+◌, ◌/◌, ◌%◌, refl, sym, ◌∙◌, ap, subst, Bool, ◌*◌, ◌<◌, ◌≤◌, not, arith}
 use Rattle.machine.specs.Bank.{word, value}
 use Rattle.std.specs.Prelude.{◌==◌}
 use Rattle.machine.specs.Board.{Machine}
@@ -7,7 +7,6 @@ use Rattle.machine.specs.Ranges.{FitsMachine}
 use Rattle.chip8_lang.specs.declared.instr.Instr.{Instr}
 use Rattle.chip8_lang.specs.declared.instr.Instr.TheVariants.{Draw}
 use Rattle.chip8_lang.specs.declared.view.Edition.{Edition}
-use Rattle.chip8_lang.specs.declared.view.Edition.TheVariants.{Usual, Tall}
 use Rattle.chip8_lang.specs.Editions.{stack_top, sprite_work}
 use Rattle.chip8_lang.specs.Screen.{Pixels}
 use Rattle.chip8_lang.specs.State.{Lang, variable, is_fetchable}
@@ -27,6 +26,7 @@ use Rattle.rom_rows.specs.KeyBlocks.{Skipping, Waiting, Turning, skip_key}
 use Rattle.rom_rows.specs.KeyBlocks.KeyPlace.{SkipTest, KeyTest, KeyHeld}
 use Rattle.rom_rows.specs.Table.{Place, place_data_of}
 use Rattle.rom_rows.specs.Table.Place.{AtTimer, AtKey, AtSprite}
+use Rattle.rom_law.proofs.Places.{work_above}
 
 -- ticks leave pc and the opcode
 pub ticks_next : (n : ℕ) (s : Lang) → ticks n (next s) ≡ next (ticks n s)
@@ -86,10 +86,6 @@ ticks_shown (suc n) d s = ap tick (ticks_shown n d s)
 ticks_cleared : (n m : ℕ) (s : Lang) → ticks n (cleared_to m s) ≡ cleared_to m (ticks n s)
 ticks_cleared zero m s = refl
 ticks_cleared (suc n) m s = ap tick (ticks_cleared n m s)
-
-work_above : (e : Edition) → stack_top e < sprite_work e
-work_above Usual = lit< tt
-work_above Tall = lit< tt
 
 module _ (x : Program) (n : ℕ) {b c : Machine} (k : After (code x).low n b c) (f : FitsMachine b) (s : Lang) where
   pub entered_later : (a : ℕ) → Entered x a b s → Entered x a c (ticks n s)

@@ -69,8 +69,8 @@ memory_facts (RestoreFound Nowhere) =
 memory_facts (RestoreByte k) =
     showing (OfMemory (RestoreByte k)) refl (λ x b s sets o. (_, o.0.holds)) (λ n x b s sets o. same x b s o.0.holds (λ px py l m. refl))
     (λ x b h f o. copying x.edition h (rw (o.0.0.inside, o.0.0.calls.0, o.0.0.calls.1, o.0.2) refl)
-        (omega (arith, o.1, check_most x.edition (now h) (high_byte (now h) % 16 + 1), o.0.1.left)))
+    (omega (arith, o.1, check_most x.edition (now h) (high_byte (now h) % 16 + 1), o.0.1.left)))
 memory_facts RestoreEnd =
     showing (OfMemory RestoreEnd) refl (λ x b s sets o. (_, o.0.holds)) (λ n x b s sets o. same x b s o.0.holds (λ px py l m. refl))
     (λ x b h f o. copying x.edition h (rw (o.0.0.inside, o.0.0.calls.0, o.0.0.calls.1, o.0.1) refl)
-        (omega (arith, o.1, check_most x.edition (now h) (high_byte (now h) % 16 + 1))))
+    (omega (arith, o.1, check_most x.edition (now h) (high_byte (now h) % 16 + 1))))

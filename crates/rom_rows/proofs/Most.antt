@@ -1,11 +1,10 @@
--- The most rows of the screen, and the most main cycles of a stop, of the range check, and of what 00E0 and DXYN do before they wait.
+-- The most main cycles of a stop, of the range check, and of what 00E0 and DXYN do before they wait.
 use Rattle.std.proofs.Common.{◌≡◌, ℕ, zero, suc, ◌+◌, ◌*◌, ◌/◌, ◌≤◌, arith, Bool, true, false, cond}
 use Rattle.std.specs.Prelude.{◌==◌, nat_lt}
 use Rattle.chip8_lang.specs.declared.instr.Instr.{Instr}
 use Rattle.chip8_lang.specs.declared.instr.Instr.TheVariants.{Clear, Machine, Unknown, Call, Return, Draw, Decimal, Store, Fetch, SkipEq, SkipNe, SkipSame, SkipDiffer}
 use Rattle.chip8_lang.specs.declared.view.Edition.{Edition}
-use Rattle.chip8_lang.specs.declared.view.Edition.TheVariants.{Usual, Tall}
-use Rattle.chip8_lang.specs.Editions.{memory_start, rows_of}
+use Rattle.chip8_lang.specs.Editions.{memory_start}
 use Rattle.chip8_lang.specs.State.{Lang, memory_byte, is_in_memory, is_fetchable, instr_at}
 use Rattle.chip8_lang.specs.Step.KeyInput.{Nothing}
 use Rattle.chip8_lang.specs.Timed.{cycles, check_cycles, row_cycles, outside_cycles, stopped_cycles, stop_cycles}
@@ -13,10 +12,6 @@ use Rattle.rom_rows.specs.ArithBlocks.{has_shared_end}
 use Rattle.rom_rows.specs.Checks.{Answer, answer_time}
 use Rattle.rom_rows.specs.Checks.Answer.{InGame, InFont, Nowhere}
 use Rattle.rom_rows.specs.SpriteBlocks.{column, asked, height, aim_time, edge_time, rows_time, draw_time}
-
-pub few_rows : (e : Edition) → rows_of e ≤ 64
-few_rows Usual = omega arith
-few_rows Tall = omega arith
 
 -- the greater of two choices
 either_most : (t : Bool) (a b m : ℕ) → a ≤ m → b ≤ m → cond t a b ≤ m

@@ -1,17 +1,14 @@
 -- Where it isn't said that main code has waited, the screen that lies in the machine is that of the state at the row: only the blocks
 -- behind the waits of 00E0 and DXYN change it.
-use Rattle.std.proofs.Common.{◌≡◌, ℕ, ◌+◌, ◌*◌, ◌/◌, ◌<◌, refl, ◌∙◌, ap, arith, Bool, true, false, List}
+use Rattle.std.proofs.Common.{◌≡◌, ℕ, ◌+◌, ◌*◌, ◌/◌, ◌<◌, refl, ◌∙◌, ap, arith, Bool, true, false}
 use Rattle.std.proofs.lemmas.Bool.{lt-ltb}
 use Rattle.machine.specs.Board.{Machine}
-use Rattle.machine.specs.Keys.{Keys}
 use Rattle.chip8_lang.specs.Editions.{rows_of}
 use Rattle.chip8_lang.specs.Screen.{one_of, some_below}
 use Rattle.chip8_lang.specs.State.{Lang}
 use Rattle.chip8_lang.specs.Step.{next}
 use Rattle.rom_law.specs.Program.{Program}
 use Rattle.rom_law.specs.Holding.{places, lies_in, Holding}
-use Rattle.rom_law.specs.Rows.{Since, now}
-use Rattle.rom_rows.specs.Heads.{Entered}
 use Rattle.rom_rows.specs.SpriteBlocks.{cleared_to, painted, lit}
 
 -- the screen that lies in the machine is that of the state, pixel by pixel

@@ -6,7 +6,7 @@ use Rattle.machine.specs.Ranges.{FitsMachine, FitsRom}
 use Rattle.chip8_lang.specs.declared.view.Edition.{Edition}
 use Rattle.chip8_lang.specs.Ticks.{ticks}
 use Rattle.rom_law.specs.Later.{After}
-use Rattle.chip8_image.specs.Labels.{at_draw_wait}
+use Rattle.chip8_image.specs.declared.image.labels.TheConstants.{AT_DRAW_WAIT}
 use Rattle.chip8_lang.specs.State.{Lang}
 use Rattle.rom_law.specs.Program.{Program, code}
 use Rattle.rom_law.specs.Rows.{Since, now, after_ticks}
@@ -83,7 +83,7 @@ module _ (e : Edition) (rom : List ℕ) where
     )
     known_later (AtSprite ClearWait) p = clearing_later x n k f (now h) _ _ p
     known_later (AtSprite ClearIdle) p = absurd (asleep (sym p.1 ∙ i))
-    known_later (AtSprite DrawWait) p = painting_later x n k f (now h) at_draw_wait p
+    known_later (AtSprite DrawWait) p = painting_later x n k f (now h) AT_DRAW_WAIT p
     known_later (AtSprite DrawIdle) p = absurd (asleep (sym p.1 ∙ i))
 
   pub later : (l : AnyPlace) (b : Machine) (h : Since) → FitsMachine b → At x l b h → b.regs.idle ≡ false → (n : ℕ) (c : Machine)

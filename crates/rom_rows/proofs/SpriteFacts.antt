@@ -1,5 +1,5 @@
 -- What holds of the blocks of 00E0 and DXYN.
-use Rattle.std.proofs.Common.{◌≡◌, ℕ, ◌+◌, ◌*◌, inl, refl, arith, true}
+use Rattle.std.proofs.Common.{inl, refl, arith, true}
 use Rattle.std.proofs.lemmas.Bool.{agree_below_at}
 use Rattle.chip8_image.specs.declared.parts.Part.TheVariants.{Sprite as IsSprite}
 use Rattle.chip8_lang.specs.Step.{next}
@@ -15,8 +15,9 @@ use Rattle.rom_rows.specs.Table.Block.{OfSprite}
 use Rattle.rom_rows.proofs.Facts.{BlockFacts, lie_in, passed, showing}
 use Rattle.rom_rows.proofs.Haste.{Slow, clearing, drawing, clears_bound, draws_bound, few}
 use Rattle.rom_rows.proofs.Haste.Haste.{Brief, Slowly}
-use Rattle.rom_rows.proofs.Most.{outside_most, aim_most, edge_most, rows_most, draw_most, few_rows}
+use Rattle.rom_rows.proofs.Most.{outside_most, aim_most, edge_most, rows_most, draw_most}
 use Rattle.rom_rows.proofs.Screens.{past}
+use Rattle.rom_law.proofs.Places.{few_rows}
 
 -- behind a wait
 pub waited_slow : (l : SpriteBlock) → IsWaited l → (x : Program) (b : Machine) (h : Since) → Head x (OfSprite l) b h → Slow x.edition h (moves (OfSprite l))
@@ -70,11 +71,11 @@ sprite_facts Begin =
 sprite_facts (Row r) =
     passed (OfSprite (Row r)) refl (λ x b s sets o. o.0.holds)
     (λ x b h f o. Slowly (drawing x.edition h (draws_bound x (now h) o.0.0.draws)
-        (omega (arith, o.1, aim_most x.edition (now h), edge_most x.edition (now h), rows_most (now h) r, o.0.1, few x.edition (now h)))))
+    (omega (arith, o.1, aim_most x.edition (now h), edge_most x.edition (now h), rows_most (now h) r, o.0.1, few x.edition (now h)))))
 sprite_facts (RowByte r) =
     passed (OfSprite (RowByte r)) refl (λ x b s sets o. o.0.holds)
     (λ x b h f o. Slowly (drawing x.edition h (draws_bound x (now h) o.0.0.draws)
-        (omega (arith, o.1, aim_most x.edition (now h), edge_most x.edition (now h), rows_most (now h) r, o.0.1, few x.edition (now h)))))
+    (omega (arith, o.1, aim_most x.edition (now h), edge_most x.edition (now h), rows_most (now h) r, o.0.1, few x.edition (now h)))))
 sprite_facts (Shift r j) =
     record {
       lie = λ x b s sets o. agree_below_at (λ i. lie_in IsSprite (addresses (sprite_data (Shift r i)))) (λ k. true) 8 j refl (omega (arith, o.4));
@@ -88,19 +89,19 @@ sprite_facts (Shift r j) =
 sprite_facts (Shifted r) =
     passed (OfSprite (Shifted r)) refl (λ x b s sets o. o.0.holds)
     (λ x b h f o. Slowly (drawing x.edition h (draws_bound x (now h) o.0.0.draws)
-        (omega (arith, o.1, aim_most x.edition (now h), edge_most x.edition (now h), rows_most (now h) r, o.0.1, few x.edition (now h)))))
+    (omega (arith, o.1, aim_most x.edition (now h), edge_most x.edition (now h), rows_most (now h) r, o.0.1, few x.edition (now h)))))
 sprite_facts (RowRight r) =
     passed (OfSprite (RowRight r)) refl (λ x b s sets o. o.0.holds)
     (λ x b h f o. Slowly (drawing x.edition h (draws_bound x (now h) o.0.0.draws)
-        (omega (arith, o.1, aim_most x.edition (now h), edge_most x.edition (now h), rows_most (now h) r, o.0.1, few x.edition (now h)))))
+    (omega (arith, o.1, aim_most x.edition (now h), edge_most x.edition (now h), rows_most (now h) r, o.0.1, few x.edition (now h)))))
 sprite_facts (RowStore r) =
     passed (OfSprite (RowStore r)) refl (λ x b s sets o. o.0.holds)
     (λ x b h f o. Slowly (drawing x.edition h (draws_bound x (now h) o.0.0.draws)
-        (omega (arith, o.1, aim_most x.edition (now h), edge_most x.edition (now h), rows_most (now h) r, o.0.1, few x.edition (now h)))))
+    (omega (arith, o.1, aim_most x.edition (now h), edge_most x.edition (now h), rows_most (now h) r, o.0.1, few x.edition (now h)))))
 sprite_facts Ready =
     passed (OfSprite Ready) refl (λ x b s sets o. o.holds)
     (λ x b h f o. Slowly (drawing x.edition h (draws_bound x (now h) o.0.draws)
-        (omega (arith, o.1, aim_most x.edition (now h), edge_most x.edition (now h), rows_most (now h) (height x.edition (now h)), few x.edition (now h)))))
+    (omega (arith, o.1, aim_most x.edition (now h), edge_most x.edition (now h), rows_most (now h) (height x.edition (now h)), few x.edition (now h)))))
 sprite_facts (Line r) =
     showing (OfSprite (Line r)) refl (λ x b s sets o. (_, o.0.holds)) (λ n x b s sets o. absurd n) (λ x b h f o. Slowly (waited_slow (Line r) tt x b h o))
 sprite_facts (LineLeft r) =

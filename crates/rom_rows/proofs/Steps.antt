@@ -14,8 +14,8 @@ use Rattle.chip8_lang.specs.Ticks.{tick, ticks}
 use Rattle.chip8_lang.specs.Between.{Allows, WaitsWell}
 use Rattle.chip8_lang.specs.Editions.{memory_start}
 use Rattle.chip8_lang.specs.Timed.{cycles, stopped_cycles, stop_cycles}
-use Rattle.chip8_image.specs.Labels.{at_fetch}
-use Rattle.rom_law.specs.Moments.{Meets, Sees, Searches, Holds, Tells, is_waiting, takes_by}
+use Rattle.chip8_image.specs.declared.image.labels.TheConstants.{AT_FETCH}
+use Rattle.rom_law.specs.Moments.{TicksBefore, Sees, Searches, Holds, MovesTell, is_waiting, takes_by}
 use Rattle.rom_law.specs.Holding.{places, Holding}
 use Rattle.rom_law.specs.Rows.{Since, Grows, Pieces, Ends, now}
 use Rattle.rom_law.specs.Rows.Ends.{Steps}
@@ -63,7 +63,7 @@ no_wait _ k n = tt
 
 -- ---- what the main moves say, at the end of a block
 
-pub meets_grown : {h h' : Since} {k n : ℕ} → Grows h k 0 h' → Meets h.moments n h.ticks → Meets h'.moments n h'.ticks
+pub meets_grown : {h h' : Since} {k n : ℕ} → Grows h k 0 h' → TicksBefore h.moments n h.ticks → TicksBefore h'.moments n h'.ticks
 meets_grown g m = record { moment = m.moment; among = g.moments m.moment m.among; at = m.at; after = omega (arith, m.after, g.ticks) }
 
 pub sees_grown : {h h' : Since} {k n key : ℕ} {down : Bool} → Grows h k 0 h' → Sees h.moments n key down → Sees h'.moments n key down
@@ -138,15 +138,15 @@ module _ (e : Edition) {k : ℕ} {h h' : Since} (g : Grows h k 0 h') (i : Instr)
 
   -- what it took from the keypad is allowed, and its main cycles have passed
   pub steps_with : {rom : List ℕ} {t : Pieces} (key : KeyInput) → Allows i h'.state h'.keys key → WaitsWell i h'.ticks 0
-      → ((n : ℕ) → takes_by e i (now h) key ≡ Some n → h.spent + 2 * k ≡ n) → Tells i h'.state h'.moments h'.spent h'.ticks key
+      → ((n : ℕ) → takes_by e i (now h) key ≡ Some n → h.spent + 2 * k ≡ n) → MovesTell i h'.state h'.moments h'.spent h'.ticks key
       → t.Makes h'.state → (c : Machine)
-      → Holding (program_of e rom) (places c) (done_by e i key (now h)) → c.regs.p ≡ 4 → c.regs.r.r4 ≡ word_of at_fetch
+      → Holding (program_of e rom) (places c) (done_by e i key (now h)) → c.regs.p ≡ 4 → c.regs.r.r4 ≡ word_of AT_FETCH
       → Ends (program_of e rom) t c h'
   steps_with {rom = rom} key allowed waits time told makes c o p r4 = Steps (step e key (now h')) (record {
     runs = no_stop;
     between = step_made e h' i key no_stop same allowed waits;
     time = λ n t. g.spent ∙ time n (taken key n t);
-    told = subst (λ j. Tells j h'.state h'.moments h'.spent h'.ticks key) (sym same) told;
+    told = subst (λ j. MovesTell j h'.state h'.moments h'.spent h'.ticks key) (sym same) told;
     stands =
         record {
           keeps = keeping (program_of e rom) c (step e key (now h')) (subst (Holding (program_of e rom) (places c)) (stepped key) o);
@@ -158,8 +158,8 @@ module _ (e : Edition) {k : ℕ} {h h' : Since} (g : Grows h k 0 h') (i : Instr)
 -- the same, where it takes no key and doesn't wait
 pub steps : (e : Edition) {rom : List ℕ} {k : ℕ} {h h' : Since} (g : Grows h k 0 h') (i : Instr) (is : instr_at (now h) ≡ i)
     (prompt : is_prompt i ≡ true) (runs : stop_of e (now h) ≡ None) (time : h.spent + 2 * k ≡ cycles e i Nothing (now h))
-    (told : Tells i h'.state h'.moments h'.spent h'.ticks Nothing) (c : Machine)
-    → Holding (program_of e rom) (places c) (done_by e i Nothing (now h)) → c.regs.p ≡ 4 → c.regs.r.r4 ≡ word_of at_fetch
+    (told : MovesTell i h'.state h'.moments h'.spent h'.ticks Nothing) (c : Machine)
+    → Holding (program_of e rom) (places c) (done_by e i Nothing (now h)) → c.regs.p ≡ 4 → c.regs.r.r4 ≡ word_of AT_FETCH
     → Ends (program_of e rom) (calm_pieces (program_of e rom)) c h'
 steps e {h = h} {h' = h'} g i is prompt runs time told c o p r4 =
     steps_with e g i is runs Nothing (keyless i prompt h') (no_wait i prompt h'.ticks) (λ n t. time ∙ prompt_takes e i prompt (now h) n t)
@@ -171,13 +171,13 @@ module _ (e : Edition) {k : ℕ} {h h' : Since} (g : Grows h k 0 h') (tick : 1 �
   waited = omega (arith, tick, g.ticks)
 
   pub clears : {rom : List ℕ} → instr_at (now h) ≡ Clear → h.spent + 2 * k ≡ cycles e Clear Nothing (now h) → (c : Machine)
-      → Holding (program_of e rom) (places c) (done_by e Clear Nothing (now h)) → c.regs.p ≡ 4 → c.regs.r.r4 ≡ word_of at_fetch
+      → Holding (program_of e rom) (places c) (done_by e Clear Nothing (now h)) → c.regs.p ≡ 4 → c.regs.r.r4 ≡ word_of AT_FETCH
       → Ends (program_of e rom) (waited_pieces (program_of e rom)) c h'
   clears is time c o p r4 = steps_with e g Clear is runs Nothing tt (waited, refl) (λ n t. time ∙ some_is t) tt tt c o p r4
 
   pub draws : {rom : List ℕ} {x y n : ℕ} → instr_at (now h) ≡ Draw x y n
       → h.spent + 2 * k ≡ cycles e (Draw x y n) Nothing (now h) → (c : Machine)
-      → Holding (program_of e rom) (places c) (done_by e (Draw x y n) Nothing (now h)) → c.regs.p ≡ 4 → c.regs.r.r4 ≡ word_of at_fetch
+      → Holding (program_of e rom) (places c) (done_by e (Draw x y n) Nothing (now h)) → c.regs.p ≡ 4 → c.regs.r.r4 ≡ word_of AT_FETCH
       → Ends (program_of e rom) (waited_pieces (program_of e rom)) c h'
   draws {x = x} {y = y} {n = n} is time c o p r4 =
       steps_with e g (Draw x y n) is runs Nothing tt (waited, refl) (λ m t. time ∙ some_is t) tt tt c o p r4

@@ -8,7 +8,7 @@ use Rattle.vip_isa.specs.Rows.{size_of}
 use Rattle.chip8_image.specs.declared.image.TheConstants.{IMAGE}
 use Rattle.chip8_image.specs.declared.map.Area.{Area}
 use Rattle.chip8_image.specs.declared.parts.Part.{Part}
-use Rattle.chip8_image.specs.Labels.{at_boot, at_halt, at_resume}
+use Rattle.chip8_image.specs.declared.image.labels.TheConstants.{AT_BOOT, AT_HALT, AT_RESUME}
 use Rattle.chip8_image.specs.Parts.{areas_of, is_part}
 use Rattle.rom_law.specs.Program.{Program}
 use Rattle.rom_law.specs.Rows.{Since, InBlock}
@@ -35,7 +35,7 @@ begins (a ∷ areas) = begins_from (a.last + 1 - a.first) a.first a.last ++ begi
 -- The code that has no blocks, by its first address: boot, the loop of a stopped interpreter, and the interrupt routine. Laws of their own
 -- say what it does.
 abbrev pub without_blocks : List ℕ
-without_blocks = at_boot ∷ at_halt ∷ at_resume ∷ []
+without_blocks = AT_BOOT ∷ AT_HALT ∷ AT_RESUME ∷ []
 
 -- the areas of a part whose code has blocks
 abbrev pub areas_with_blocks : Part → List Area
@@ -63,5 +63,5 @@ pub record IsIn (p : Part) (a : ℕ) : Type 0 where
   pub is : slice_index (addresses_of piece) k ≡ a
 
 -- every instruction of the part's code that has blocks is
-abbrev pub Covers : Part → Type 0
-Covers p = (i : ℕ) → i < length (begins (areas_with_blocks p)) → IsIn p (slice_index (begins (areas_with_blocks p)) i)
+abbrev pub AllInBlocks : Part → Type 0
+AllInBlocks p = (i : ℕ) → i < length (begins (areas_with_blocks p)) → IsIn p (slice_index (begins (areas_with_blocks p)) i)

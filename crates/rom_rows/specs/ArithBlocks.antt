@@ -7,10 +7,10 @@ use Rattle.chip8_lang.specs.declared.view.Stop.TheVariants.{MachineCall, Unknown
 use Rattle.chip8_lang.specs.State.{Lang, instr_at}
 use Rattle.chip8_lang.specs.Step.{skip_if, set_with_flag, step}
 use Rattle.chip8_lang.specs.Step.KeyInput.{Nothing}
-use Rattle.chip8_image.specs.Labels.{at_system, at_system_low, at_system_back, at_machine, at_return, at_return_take, at_empty, at_jump, at_call, at_call_put, at_full, at_jump_plus, at_load, at_add, at_skip_eq, at_skip_eq_no, at_skip_ne, at_skip_ne_no, at_skip_same, at_skip_same_test, at_skip_same_no, at_skip_differ, at_differ_test, at_differ_no, at_skip, at_unknown81, at_arith, at_slot0, at_copy, at_vx_or, at_vx_and, at_vx_xor, at_sum, at_less, at_right, at_from, at_left, at_no_flag, at_flag, at_unknown82}
+use Rattle.chip8_image.specs.declared.image.labels.TheConstants.{AT_SYSTEM, AT_SYSTEM_LOW, AT_SYSTEM_BACK, AT_MACHINE, AT_RETURN, AT_RETURN_TAKE, AT_EMPTY, AT_JUMP, AT_CALL, AT_CALL_PUT, AT_FULL, AT_JUMP_PLUS, AT_LOAD, AT_ADD, AT_SKIP_EQ, AT_SKIP_EQ_NO, AT_SKIP_NE, AT_SKIP_NE_NO, AT_SKIP_SAME, AT_SKIP_SAME_TEST, AT_SKIP_SAME_NO, AT_SKIP_DIFFER, AT_DIFFER_TEST, AT_DIFFER_NO, AT_SKIP, AT_UNKNOWN81, AT_ARITH, AT_SLOT0, AT_COPY, AT_VX_OR, AT_VX_AND, AT_VX_XOR, AT_SUM, AT_LESS, AT_RIGHT, AT_FROM, AT_LEFT, AT_NO_FLAG, AT_FLAG, AT_UNKNOWN82}
 use Rattle.rom_law.specs.Program.{Program}
 use Rattle.rom_rows.specs.Blocks.{BlockData, block, block_over}
-use Rattle.rom_rows.specs.Heads.{Time, to_stop, to_dispatch, from, high_byte, low_byte, Entered, Enters}
+use Rattle.rom_rows.specs.Heads.{to_stop, to_dispatch, from, high_byte, low_byte, Entered, Enters}
 use Rattle.rom_rows.specs.Heads.Time.{Exactly, Left}
 
 pub data ArithBlock : Type 0 where
@@ -59,7 +59,7 @@ pub data ArithBlock : Type 0 where
 
 -- where 3XKK, 4XKK, 5XY0 and 9XY0 go on if they don't skip
 abbrev pub no_skip_labels : List ℕ
-no_skip_labels = at_skip_eq_no ∷ at_skip_ne_no ∷ at_skip_same_no ∷ at_differ_no ∷ []
+no_skip_labels = AT_SKIP_EQ_NO ∷ AT_SKIP_NE_NO ∷ AT_SKIP_SAME_NO ∷ AT_DIFFER_NO ∷ []
 
 -- how many instructions each of 8XY0 to 8XYF has behind its branch, up to its end or to the flag
 abbrev pub operation_lengths : List ℕ
@@ -90,46 +90,46 @@ pub record Ending (x : Program) (a : ℕ) (z : Lang) (b : Machine) (s : Lang) : 
 -- where the code of each of 8XY0 to 8XYF begins
 abbrev pub operation_labels : List ℕ
 operation_labels =
-    at_copy ∷ at_vx_or ∷ at_vx_and ∷ at_vx_xor ∷ at_sum ∷ at_less ∷ at_right ∷ at_from ∷
-    at_unknown82 ∷ at_unknown82 ∷ at_unknown82 ∷ at_unknown82 ∷ at_unknown82 ∷ at_unknown82 ∷ at_left ∷ at_unknown82 ∷
+    AT_COPY ∷ AT_VX_OR ∷ AT_VX_AND ∷ AT_VX_XOR ∷ AT_SUM ∷ AT_LESS ∷ AT_RIGHT ∷ AT_FROM ∷
+    AT_UNKNOWN82 ∷ AT_UNKNOWN82 ∷ AT_UNKNOWN82 ∷ AT_UNKNOWN82 ∷ AT_UNKNOWN82 ∷ AT_UNKNOWN82 ∷ AT_LEFT ∷ AT_UNKNOWN82 ∷
     []
 
 abbrev pub arith_data : ArithBlock → BlockData
-arith_data System = block (λ x b s sets. Enters x at_system 0 b s) (λ x s. Exactly 80) at_system (1 ∷ [])
-arith_data SystemLow = block (λ x b s sets. Entered x at_system_low b s × (high_byte s ≡ 0)) (λ x s. Exactly 84) at_system_low (1 ∷ 3 ∷ [])
+arith_data System = block (λ x b s sets. Enters x AT_SYSTEM 0 b s) (λ x s. Exactly 80) AT_SYSTEM (1 ∷ [])
+arith_data SystemLow = block (λ x b s sets. Entered x AT_SYSTEM_LOW b s × (high_byte s ≡ 0)) (λ x s. Exactly 84) AT_SYSTEM_LOW (1 ∷ 3 ∷ [])
 arith_data SystemBack =
-    block (λ x b s sets. Entered x at_system_back b s × (high_byte s ≡ 0) × (low_byte s ≡ 0xe0 → ⊥)) (λ x s. Exactly 90) at_system_back (1 ∷ 3 ∷ [])
-arith_data MachineCode = block (λ x b s sets. Entered x at_machine b s × (x.stop_of s ≡ Some MachineCall)) (λ x s. Left 26 (to_stop x s)) at_machine (2 ∷ [])
-arith_data Return = block (λ x b s sets. Entered x at_return b s × (high_byte s ≡ 0) × (low_byte s ≡ 0xee)) (λ x s. Exactly 96) at_return (1 ∷ 3 ∷ [])
+    block (λ x b s sets. Entered x AT_SYSTEM_BACK b s × (high_byte s ≡ 0) × (low_byte s ≡ 0xe0 → ⊥)) (λ x s. Exactly 90) AT_SYSTEM_BACK (1 ∷ 3 ∷ [])
+arith_data MachineCode = block (λ x b s sets. Entered x AT_MACHINE b s × (x.stop_of s ≡ Some MachineCall)) (λ x s. Left 26 (to_stop x s)) AT_MACHINE (2 ∷ [])
+arith_data Return = block (λ x b s sets. Entered x AT_RETURN b s × (high_byte s ≡ 0) × (low_byte s ≡ 0xee)) (λ x s. Exactly 96) AT_RETURN (1 ∷ 3 ∷ [])
 arith_data ReturnTake =
-    block (λ x b s sets. Entered x at_return_take b s × (high_byte s ≡ 0) × (low_byte s ≡ 0xee) × (0 < length s.stack)) (λ x s. Exactly 102)
-    at_return_take (1 ∷ 2 ∷ 3 ∷ 4 ∷ 5 ∷ 6 ∷ 7 ∷ 8 ∷ 9 ∷ 10 ∷ 11 ∷ [])
-arith_data Empty = block (λ x b s sets. Entered x at_empty b s × (x.stop_of s ≡ Some StackEmpty)) (λ x s. Left 26 (to_stop x s)) at_empty (2 ∷ [])
-arith_data JumpTo = block (λ x b s sets. Enters x at_jump 1 b s) (λ x s. Exactly 80) at_jump (1 ∷ 3 ∷ 4 ∷ 5 ∷ 6 ∷ [])
-arith_data Call = block (λ x b s sets. Enters x at_call 2 b s) (λ x s. Exactly 80) at_call (1 ∷ 3 ∷ [])
+    block (λ x b s sets. Entered x AT_RETURN_TAKE b s × (high_byte s ≡ 0) × (low_byte s ≡ 0xee) × (0 < length s.stack)) (λ x s. Exactly 102)
+    AT_RETURN_TAKE (1 ∷ 2 ∷ 3 ∷ 4 ∷ 5 ∷ 6 ∷ 7 ∷ 8 ∷ 9 ∷ 10 ∷ 11 ∷ [])
+arith_data Empty = block (λ x b s sets. Entered x AT_EMPTY b s × (x.stop_of s ≡ Some StackEmpty)) (λ x s. Left 26 (to_stop x s)) AT_EMPTY (2 ∷ [])
+arith_data JumpTo = block (λ x b s sets. Enters x AT_JUMP 1 b s) (λ x s. Exactly 80) AT_JUMP (1 ∷ 3 ∷ 4 ∷ 5 ∷ 6 ∷ [])
+arith_data Call = block (λ x b s sets. Enters x AT_CALL 2 b s) (λ x s. Exactly 80) AT_CALL (1 ∷ 3 ∷ [])
 arith_data CallPut =
-    block (λ x b s sets. Enters x at_call_put 2 b s × (length s.stack < 12)) (λ x s. Exactly 86) at_call_put (1 ∷ 2 ∷ 3 ∷ 4 ∷ 5 ∷ 6 ∷ 8 ∷ 9 ∷ 10 ∷ 11 ∷ [])
-arith_data Full = block (λ x b s sets. Entered x at_full b s × (x.stop_of s ≡ Some StackFull)) (λ x s. Left 26 (to_stop x s)) at_full (2 ∷ [])
+    block (λ x b s sets. Enters x AT_CALL_PUT 2 b s × (length s.stack < 12)) (λ x s. Exactly 86) AT_CALL_PUT (1 ∷ 2 ∷ 3 ∷ 4 ∷ 5 ∷ 6 ∷ 8 ∷ 9 ∷ 10 ∷ 11 ∷ [])
+arith_data Full = block (λ x b s sets. Entered x AT_FULL b s × (x.stop_of s ≡ Some StackFull)) (λ x s. Left 26 (to_stop x s)) AT_FULL (2 ∷ [])
 arith_data JumpPlus =
-    block (λ x b s sets. Enters x at_jump_plus 11 b s) (λ x s. Exactly 80) at_jump_plus (2 ∷ 3 ∷ 5 ∷ 6 ∷ 7 ∷ 8 ∷ 9 ∷ 10 ∷ 11 ∷ 13 ∷ 15 ∷ 16 ∷ [])
-arith_data Load = block (λ x b s sets. Enters x at_load 6 b s) (λ x s. Exactly 80) at_load (1 ∷ 2 ∷ [])
-arith_data Add = block (λ x b s sets. Enters x at_add 7 b s) (λ x s. Exactly 80) at_add (1 ∷ 2 ∷ 3 ∷ 4 ∷ [])
-arith_data SkipEq = block (λ x b s sets. Enters x at_skip_eq 3 b s) (λ x s. Exactly 80) at_skip_eq (1 ∷ 2 ∷ 3 ∷ [])
-arith_data SkipNe = block (λ x b s sets. Enters x at_skip_ne 4 b s) (λ x s. Exactly 80) at_skip_ne (1 ∷ 2 ∷ 3 ∷ [])
-arith_data SkipSame = block (λ x b s sets. Enters x at_skip_same 5 b s) (λ x s. Exactly 80) at_skip_same (1 ∷ 3 ∷ [])
-arith_data SameTest = block (λ x b s sets. Enters x at_skip_same_test 5 b s × (low_byte s % 16 ≡ 0)) (λ x s. Exactly 86) at_skip_same_test (1 ∷ 2 ∷ 3 ∷ [])
-arith_data SkipDiffer = block (λ x b s sets. Enters x at_skip_differ 9 b s) (λ x s. Exactly 80) at_skip_differ (1 ∷ 3 ∷ [])
-arith_data DifferTest = block (λ x b s sets. Enters x at_differ_test 9 b s × (low_byte s % 16 ≡ 0)) (λ x s. Exactly 86) at_differ_test (1 ∷ 2 ∷ 3 ∷ [])
+    block (λ x b s sets. Enters x AT_JUMP_PLUS 11 b s) (λ x s. Exactly 80) AT_JUMP_PLUS (2 ∷ 3 ∷ 5 ∷ 6 ∷ 7 ∷ 8 ∷ 9 ∷ 10 ∷ 11 ∷ 13 ∷ 15 ∷ 16 ∷ [])
+arith_data Load = block (λ x b s sets. Enters x AT_LOAD 6 b s) (λ x s. Exactly 80) AT_LOAD (1 ∷ 2 ∷ [])
+arith_data Add = block (λ x b s sets. Enters x AT_ADD 7 b s) (λ x s. Exactly 80) AT_ADD (1 ∷ 2 ∷ 3 ∷ 4 ∷ [])
+arith_data SkipEq = block (λ x b s sets. Enters x AT_SKIP_EQ 3 b s) (λ x s. Exactly 80) AT_SKIP_EQ (1 ∷ 2 ∷ 3 ∷ [])
+arith_data SkipNe = block (λ x b s sets. Enters x AT_SKIP_NE 4 b s) (λ x s. Exactly 80) AT_SKIP_NE (1 ∷ 2 ∷ 3 ∷ [])
+arith_data SkipSame = block (λ x b s sets. Enters x AT_SKIP_SAME 5 b s) (λ x s. Exactly 80) AT_SKIP_SAME (1 ∷ 3 ∷ [])
+arith_data SameTest = block (λ x b s sets. Enters x AT_SKIP_SAME_TEST 5 b s × (low_byte s % 16 ≡ 0)) (λ x s. Exactly 86) AT_SKIP_SAME_TEST (1 ∷ 2 ∷ 3 ∷ [])
+arith_data SkipDiffer = block (λ x b s sets. Enters x AT_SKIP_DIFFER 9 b s) (λ x s. Exactly 80) AT_SKIP_DIFFER (1 ∷ 3 ∷ [])
+arith_data DifferTest = block (λ x b s sets. Enters x AT_DIFFER_TEST 9 b s × (low_byte s % 16 ≡ 0)) (λ x s. Exactly 86) AT_DIFFER_TEST (1 ∷ 2 ∷ 3 ∷ [])
 arith_data (NoSkip i) =
     block (λ x b s sets. Ending x (slice_index no_skip_labels i) (skip_if false s) b s × (i < 4)) (λ x s. Left 2 (to_dispatch x s))
     (slice_index no_skip_labels i) []
-arith_data Skip = block (λ x b s sets. Ending x at_skip (skip_if true s) b s) (λ x s. Left 6 (to_dispatch x s)) at_skip (1 ∷ 2 ∷ [])
-arith_data Unknown81 = block (λ x b s sets. Entered x at_unknown81 b s × (x.stop_of s ≡ Some Unknown)) (λ x s. Left 26 (to_stop x s)) at_unknown81 (2 ∷ [])
-arith_data Arith = block (λ x b s sets. Enters x at_arith 8 b s) (λ x s. Exactly 80) at_arith (1 ∷ 2 ∷ 4 ∷ 5 ∷ 7 ∷ [])
+arith_data Skip = block (λ x b s sets. Ending x AT_SKIP (skip_if true s) b s) (λ x s. Left 6 (to_dispatch x s)) AT_SKIP (1 ∷ 2 ∷ [])
+arith_data Unknown81 = block (λ x b s sets. Entered x AT_UNKNOWN81 b s × (x.stop_of s ≡ Some Unknown)) (λ x s. Left 26 (to_stop x s)) AT_UNKNOWN81 (2 ∷ [])
+arith_data Arith = block (λ x b s sets. Enters x AT_ARITH 8 b s) (λ x s. Exactly 80) AT_ARITH (1 ∷ 2 ∷ 4 ∷ 5 ∷ 7 ∷ [])
 arith_data (Operation n) =
-    block_over (λ x b s sets. Enters x (at_slot0 + 2 * n) 8 b s × (low_byte s % 16 ≡ n) × (b.regs.x ≡ 6)) (λ x s. Exactly 92)
-    (at_slot0 + 2 * n) (take (slice_index operation_lengths n) (from (slice_index operation_labels n) (0 ∷ 1 ∷ 2 ∷ []) ++ at_no_flag ∷ []))
+    block_over (λ x b s sets. Enters x (AT_SLOT0 + 2 * n) 8 b s × (low_byte s % 16 ≡ n) × (b.regs.x ≡ 6)) (λ x s. Exactly 92)
+    (AT_SLOT0 + 2 * n) (take (slice_index operation_lengths n) (from (slice_index operation_labels n) (0 ∷ 1 ∷ 2 ∷ []) ++ AT_NO_FLAG ∷ []))
 arith_data Flag =
-    block (λ x b s sets. Ending x at_flag (set_with_flag (high_byte s % 16) b.regs.d b.regs.df s) b s) (λ x s. Left 18 (to_dispatch x s))
-    at_flag (1 ∷ 3 ∷ 4 ∷ 6 ∷ 7 ∷ 9 ∷ 10 ∷ 11 ∷ [])
-arith_data Unknown82 = block (λ x b s sets. Entered x at_unknown82 b s × (x.stop_of s ≡ Some Unknown)) (λ x s. Left 26 (to_stop x s)) at_unknown82 (2 ∷ [])
+    block (λ x b s sets. Ending x AT_FLAG (set_with_flag (high_byte s % 16) b.regs.d b.regs.df s) b s) (λ x s. Left 18 (to_dispatch x s))
+    AT_FLAG (1 ∷ 3 ∷ 4 ∷ 6 ∷ 7 ∷ 9 ∷ 10 ∷ 11 ∷ [])
+arith_data Unknown82 = block (λ x b s sets. Entered x AT_UNKNOWN82 b s × (x.stop_of s ≡ Some Unknown)) (λ x s. Left 26 (to_stop x s)) AT_UNKNOWN82 (2 ∷ [])

@@ -7,7 +7,7 @@ use Rattle.chip8_lang.specs.Editions.{sprite_work}
 use Rattle.chip8_lang.specs.State.{Lang, is_in_memory, is_in_font, is_fetchable}
 use Rattle.chip8_lang.specs.Step.{next}
 use Rattle.chip8_lang.specs.Timed.{outside_cycles}
-use Rattle.chip8_image.specs.Labels.{at_fetch, at_decimal_found, at_store_found, at_restore_found, at_draw_found}
+use Rattle.chip8_image.specs.declared.image.labels.TheConstants.{AT_FETCH, AT_DECIMAL_FOUND, AT_STORE_FOUND, AT_RESTORE_FOUND, AT_DRAW_FOUND}
 use Rattle.rom_law.specs.Program.{Program}
 use Rattle.rom_law.specs.Holding.{places, Holding}
 use Rattle.rom_rows.specs.Heads.{high_byte, low_byte, page_of}
@@ -37,10 +37,10 @@ count_of ForDraw s = low_byte s % 16
 
 -- where the check goes back to
 abbrev pub return_of : Caller → ℕ
-return_of ForDecimal = at_decimal_found
-return_of ForStore = at_store_found
-return_of ForRestore = at_restore_found
-return_of ForDraw = at_draw_found
+return_of ForDecimal = AT_DECIMAL_FOUND
+return_of ForStore = AT_STORE_FOUND
+return_of ForRestore = AT_RESTORE_FOUND
+return_of ForDraw = AT_DRAW_FOUND
 
 -- the main cycles from the dispatch to the call
 abbrev pub call_time : Caller → ℕ
@@ -82,7 +82,7 @@ pub record Called (x : Program) (c : Caller) (b : Machine) (s : Lang) : Type 0 w
   pub holds : Holding x (places b) (next s)
   pub inside : is_fetchable x.edition s ≡ true
   pub calls : Calls c s
-  pub r4 : b.regs.r.r4 ≡ word_of at_fetch
+  pub r4 : b.regs.r.r4 ≡ word_of AT_FETCH
   pub r6 : b.regs.r.r6 ≡ word (page_of x.edition) (0xf0 + high_byte s % 16)
   pub r7 : b.regs.r.r7 ≡ word (page_of x.edition) (0xf0 + low_byte s / 16)
 

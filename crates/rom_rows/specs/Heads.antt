@@ -10,8 +10,8 @@ use Rattle.chip8_lang.specs.State.{Lang, memory_byte, instr_at, is_fetchable}
 use Rattle.chip8_lang.specs.Step.{next, stop_number, step}
 use Rattle.chip8_lang.specs.Step.KeyInput.{Nothing}
 use Rattle.chip8_lang.specs.Timed.{cycles, stop_cycles}
-use Rattle.chip8_image.specs.Labels.{at_fetch}
-use Rattle.rom_law.specs.Moments.{Meets, Sees, Searches, Holds}
+use Rattle.chip8_image.specs.declared.image.labels.TheConstants.{AT_FETCH}
+use Rattle.rom_law.specs.Moments.{TicksBefore, Sees, Searches, Holds}
 use Rattle.rom_law.specs.Program.{Program}
 use Rattle.rom_law.specs.Rows.{Since}
 use Rattle.rom_law.specs.Holding.{places, Holding}
@@ -35,7 +35,7 @@ abbrev pub Within : Time → Since → Type 0
 Within (Exactly n) h = h.spent ≡ n
 Within (Left n all) h = h.spent + n ≡ all
 Within (Waited n) h = (h.spent ≡ n) × (1 ≤ h.ticks)
-Within (Met n k) h = (h.spent ≡ n) × Meets h.moments k h.ticks
+Within (Met n k) h = (h.spent ≡ n) × TicksBefore h.moments k h.ticks
 Within (Seen n k key down) h = (h.spent ≡ n) × Sees h.moments k key down
 Within (Searching n turns) h = (h.spent ≡ n) × Searches h.moments turns
 Within (Looking turn looks) h = (h.spent ≡ 116 + 14 * turn + 2 * looks) × Holds h.moments turn looks
@@ -93,7 +93,7 @@ pub record Entered (x : Program) (a : ℕ) (b : Machine) (s : Lang) : Type 0 whe
   pub inside : is_fetchable x.edition s ≡ true
   pub p : b.regs.p ≡ 3
   pub r3 : b.regs.r.r3 ≡ word_of a
-  pub r4 : b.regs.r.r4 ≡ word_of at_fetch
+  pub r4 : b.regs.r.r4 ≡ word_of AT_FETCH
   pub r6 : b.regs.r.r6 ≡ word (page_of x.edition) (0xf0 + high_byte s % 16)
   pub r7 : b.regs.r.r7 ≡ word (page_of x.edition) (0xf0 + low_byte s / 16)
   pub rc : b.regs.r.rc ≡ word (high_byte s) (low_byte s)
@@ -109,7 +109,7 @@ pub record Done (x : Program) (a : ℕ) (b : Machine) (s : Lang) : Type 0 where
   pub inside : is_fetchable x.edition s ≡ true
   pub p : b.regs.p ≡ 3
   pub r3 : b.regs.r.r3 ≡ word_of a
-  pub r4 : b.regs.r.r4 ≡ word_of at_fetch
+  pub r4 : b.regs.r.r4 ≡ word_of AT_FETCH
 
 -- s stops, and the number of its stop is in D: at a page's way to the stops, with pc past the opcode
 pub record Leaving (x : Program) (a : ℕ) (b : Machine) (s : Lang) : Type 0 where

@@ -6,11 +6,11 @@ use Rattle.machine.specs.Keys.{Keys}
 use Rattle.chip8_lang.specs.Between.{IsAt, SomeTime}
 use Rattle.chip8_lang.specs.State.{Lang, variable, is_fetchable}
 use Rattle.chip8_lang.specs.Step.{next}
-use Rattle.chip8_image.specs.Labels.{at_fetch, at_key_skip, at_key_skip_up, at_skip_up, at_skip_up_test, at_skip_up_no, at_skip_down, at_skip_down_test, at_skip_down_no, at_key_yes, at_wait_key, at_key_next, at_key_test, at_key_count, at_key_held, at_key_freed}
+use Rattle.chip8_image.specs.declared.image.labels.TheConstants.{AT_FETCH, AT_KEY_SKIP, AT_KEY_SKIP_UP, AT_SKIP_UP, AT_SKIP_UP_TEST, AT_SKIP_UP_NO, AT_SKIP_DOWN, AT_SKIP_DOWN_TEST, AT_SKIP_DOWN_NO, AT_KEY_YES, AT_WAIT_KEY, AT_KEY_NEXT, AT_KEY_TEST, AT_KEY_COUNT, AT_KEY_HELD, AT_KEY_FREED}
 use Rattle.rom_law.specs.Program.{Program}
 use Rattle.rom_law.specs.Holding.{places, Holding}
 use Rattle.rom_rows.specs.Blocks.{BlockData, PlaceData, block, place}
-use Rattle.rom_rows.specs.Heads.{Time, from, high_byte, low_byte, page_of, Enters}
+use Rattle.rom_rows.specs.Heads.{high_byte, low_byte, page_of, Enters}
 use Rattle.rom_rows.specs.Heads.Time.{Exactly, Seen, Searching, Looking, Freed}
 
 -- Of the two skips, the one with `down` skips where its key is down, and the other where it is up.
@@ -77,7 +77,7 @@ pub record Skipping (x : Program) (down : Bool) (a : ℕ) (b : Machine) (s : Lan
   pub inside : is_fetchable x.edition s ≡ true
   pub p : b.regs.p ≡ 3
   pub r3 : b.regs.r.r3 ≡ word_of a
-  pub r4 : b.regs.r.r4 ≡ word_of at_fetch
+  pub r4 : b.regs.r.r4 ≡ word_of AT_FETCH
   pub digit : high_byte s / 16 ≡ 14
   pub low : low_byte s ≡ skip_code down
 
@@ -95,16 +95,16 @@ pub record Turning (x : Program) (turn a : ℕ) (b : Machine) (s : Lang) : Type 
 
 -- the labels of the skips
 abbrev pub skip_label : Bool → ℕ
-skip_label true = at_skip_down
-skip_label false = at_skip_up
+skip_label true = AT_SKIP_DOWN
+skip_label false = AT_SKIP_UP
 
 abbrev pub skip_test_label : Bool → ℕ
-skip_test_label true = at_skip_down_test
-skip_test_label false = at_skip_up_test
+skip_test_label true = AT_SKIP_DOWN_TEST
+skip_test_label false = AT_SKIP_UP_TEST
 
 abbrev pub no_skip_label : Bool → ℕ
-no_skip_label true = at_skip_down_no
-no_skip_label false = at_skip_up_no
+no_skip_label true = AT_SKIP_DOWN_NO
+no_skip_label false = AT_SKIP_UP_NO
 
 -- the main cycles before a skip
 abbrev pub skip_time : Bool → ℕ
@@ -112,9 +112,9 @@ skip_time true = 88
 skip_time false = 94
 
 abbrev pub key_data : KeyBlock → BlockData
-key_data KeySkip = block (λ x b s sets. Enters x at_key_skip 14 b s) (λ x s. Exactly 80) at_key_skip (1 ∷ 2 ∷ 4 ∷ [])
+key_data KeySkip = block (λ x b s sets. Enters x AT_KEY_SKIP 14 b s) (λ x s. Exactly 80) AT_KEY_SKIP (1 ∷ 2 ∷ 4 ∷ [])
 key_data KeySkipUp =
-    block (λ x b s sets. Enters x at_key_skip_up 14 b s × (b.regs.x ≡ 6) × (low_byte s ≡ skip_code true → ⊥)) (λ x s. Exactly 88) at_key_skip_up (1 ∷ 3 ∷ [])
+    block (λ x b s sets. Enters x AT_KEY_SKIP_UP 14 b s × (b.regs.x ≡ 6) × (low_byte s ≡ skip_code true → ⊥)) (λ x s. Exactly 88) AT_KEY_SKIP_UP (1 ∷ 3 ∷ [])
 key_data (SkipLatch down) =
     block (λ x b s sets. Enters x (skip_label down) 14 b s × (b.regs.x ≡ 6) × (low_byte s ≡ skip_code down)) (λ x s. Exactly (skip_time down))
     (skip_label down) []
@@ -122,24 +122,24 @@ key_data (NoSkip down) =
     block (λ x b s sets. Skipping x down (no_skip_label down) b s × SomeTime sets (skip_key s) (not down))
     (λ x s. Seen (skip_time down + 4) (skip_time down + 2) (skip_key s) (not down)) (no_skip_label down) []
 key_data (Skip down) =
-    block (λ x b s sets. Skipping x down at_key_yes b s × SomeTime sets (skip_key s) down)
-    (λ x s. Seen (skip_time down + 4) (skip_time down + 2) (skip_key s) down) at_key_yes (1 ∷ 2 ∷ [])
-key_data WaitKey = block (λ x b s sets. Enters x at_wait_key 15 b s × (low_byte s ≡ 0x0a)) (λ x s. Exactly 92) at_wait_key (2 ∷ 3 ∷ 5 ∷ 6 ∷ 7 ∷ 9 ∷ [])
+    block (λ x b s sets. Skipping x down AT_KEY_YES b s × SomeTime sets (skip_key s) down)
+    (λ x s. Seen (skip_time down + 4) (skip_time down + 2) (skip_key s) down) AT_KEY_YES (1 ∷ 2 ∷ [])
+key_data WaitKey = block (λ x b s sets. Enters x AT_WAIT_KEY 15 b s × (low_byte s ≡ 0x0a)) (λ x s. Exactly 92) AT_WAIT_KEY (2 ∷ 3 ∷ 5 ∷ 6 ∷ 7 ∷ 9 ∷ [])
 key_data (KeyNext turn) =
-    block (λ x b s sets. Turning x turn at_key_next b s × Turned turn 0 sets) (λ x s. Searching (106 + 14 * turn) turn) at_key_next (1 ∷ 2 ∷ 3 ∷ [])
+    block (λ x b s sets. Turning x turn AT_KEY_NEXT b s × Turned turn 0 sets) (λ x s. Searching (106 + 14 * turn) turn) AT_KEY_NEXT (1 ∷ 2 ∷ 3 ∷ [])
 key_data (KeyCount turn) =
-    block (λ x b s sets. Turning x turn at_key_count b s × Turned turn 5 sets × Last sets (turn % 16) false) (λ x s. Searching (116 + 14 * turn) (suc turn))
-    at_key_count (1 ∷ [])
+    block (λ x b s sets. Turning x turn AT_KEY_COUNT b s × Turned turn 5 sets × Last sets (turn % 16) false) (λ x s. Searching (116 + 14 * turn) (suc turn))
+    AT_KEY_COUNT (1 ∷ [])
 key_data (KeyFreed turn looks) =
-    block (λ x b s sets. Waiting x at_key_freed b s × JustUp sets (b.regs.r.re.lo % 16) × (b.regs.r.re.lo % 16 ≡ turn % 16)) (λ x s. Freed turn looks)
-    at_key_freed (1 ∷ 3 ∷ 4 ∷ [])
+    block (λ x b s sets. Waiting x AT_KEY_FREED b s × JustUp sets (b.regs.r.re.lo % 16) × (b.regs.r.re.lo % 16 ≡ turn % 16)) (λ x s. Freed turn looks)
+    AT_KEY_FREED (1 ∷ 3 ∷ 4 ∷ [])
 
 abbrev pub key_place_data : KeyPlace → PlaceData
 key_place_data (SkipTest down) =
     place (λ x b s sets. Skipping x down (skip_test_label down) b s × (b.key ≡ skip_key s)) (λ x s. Exactly (skip_time down + 2)) (skip_test_label down)
 key_place_data (KeyTest turn) =
-    place (λ x b s sets. Turning x turn at_key_test b s × (b.key ≡ turn % 16) × Turned turn 4 sets) (λ x s. Searching (114 + 14 * turn) turn) at_key_test
+    place (λ x b s sets. Turning x turn AT_KEY_TEST b s × (b.key ≡ turn % 16) × Turned turn 4 sets) (λ x s. Searching (114 + 14 * turn) turn) AT_KEY_TEST
 key_place_data (KeyHeld turn looks) =
-    place (λ x b s sets. Waiting x at_key_held b s × (b.key ≡ b.regs.r.re.lo % 16) × Last sets (b.regs.r.re.lo % 16) true × (b.regs.r.re.lo % 16 ≡ turn % 16))
+    place (λ x b s sets. Waiting x AT_KEY_HELD b s × (b.key ≡ b.regs.r.re.lo % 16) × Last sets (b.regs.r.re.lo % 16) true × (b.regs.r.re.lo % 16 ≡ turn % 16))
     (λ x s. Looking turn looks)
-    at_key_held
+    AT_KEY_HELD

@@ -6,11 +6,11 @@ use Rattle.chip8_lang.specs.Editions.{memory_start}
 use Rattle.chip8_lang.specs.State.{Lang, variable, is_in_memory, is_fetchable}
 use Rattle.chip8_lang.specs.Step.{is_readable, next, stored, bytes_from}
 use Rattle.chip8_lang.specs.Timed.{check_cycles}
-use Rattle.chip8_image.specs.Labels.{at_fetch, at_index, at_add_index, at_digit, at_decimal, at_decimal_found, at_hundreds, at_hundreds_end, at_tens, at_tens_end, at_store, at_store_found, at_store_byte, at_store_end, at_restore, at_restore_found, at_restore_byte, at_restore_end, at_write_outside, at_read_outside, at_check, at_check_game, at_check_font, at_check_low, at_in_game, at_in_font, at_nowhere}
+use Rattle.chip8_image.specs.declared.image.labels.TheConstants.{AT_FETCH, AT_INDEX, AT_ADD_INDEX, AT_DIGIT, AT_DECIMAL, AT_DECIMAL_FOUND, AT_HUNDREDS, AT_HUNDREDS_END, AT_TENS, AT_TENS_END, AT_STORE, AT_STORE_FOUND, AT_STORE_BYTE, AT_STORE_END, AT_RESTORE, AT_RESTORE_FOUND, AT_RESTORE_BYTE, AT_RESTORE_END, AT_WRITE_OUTSIDE, AT_READ_OUTSIDE, AT_CHECK, AT_CHECK_GAME, AT_CHECK_FONT, AT_CHECK_LOW, AT_IN_GAME, AT_IN_FONT, AT_NOWHERE}
 use Rattle.rom_law.specs.Program.{Program}
 use Rattle.rom_law.specs.Holding.{places, Holding}
 use Rattle.rom_rows.specs.Blocks.{BlockData, block, block_over}
-use Rattle.rom_rows.specs.Heads.{Time, from, high_byte, low_byte, page_of, Enters}
+use Rattle.rom_rows.specs.Heads.{from, high_byte, low_byte, page_of, Enters}
 use Rattle.rom_rows.specs.Heads.Time.{Exactly}
 use Rattle.rom_rows.specs.Checks.{Caller, Calls, count_of, call_time, Answer, answer_time, IsAnswer, Called, Checking, Comparing, Checked}
 use Rattle.rom_rows.specs.Checks.Caller.{ForDecimal, ForStore, ForRestore}
@@ -78,7 +78,7 @@ pub record Copying (x : Program) (c : Caller) (a : ℕ) (z : Lang) (b : Machine)
   pub calls : Calls c s
   pub p : b.regs.p ≡ 3
   pub r3 : b.regs.r.r3 ≡ word_of a
-  pub r4 : b.regs.r.r4 ≡ word_of at_fetch
+  pub r4 : b.regs.r.r4 ≡ word_of AT_FETCH
 
 -- V0 to V(k-1) are stored, or fetched, and I is past them
 abbrev pub stored_to : ℕ → Lang → Lang
@@ -95,73 +95,73 @@ pub record Turn (x : Program) (k : ℕ) (b : Machine) (s : Lang) : Type 0 where
 
 -- where the check answers
 abbrev pub answer_label : Answer → ℕ
-answer_label InGame = at_in_game
-answer_label InFont = at_in_font
-answer_label Nowhere = at_nowhere
+answer_label InGame = AT_IN_GAME
+answer_label InFont = AT_IN_FONT
+answer_label Nowhere = AT_NOWHERE
 
 -- what a caller has behind its first instruction after the check, by the answer
 abbrev pub decimal_found : Answer → List ℕ
-decimal_found InGame = from at_decimal_found (2 ∷ 3 ∷ 4 ∷ 5 ∷ 6 ∷ 8 ∷ 9 ∷ 10 ∷ [])
-decimal_found answer = from at_write_outside (0 ∷ 2 ∷ [])
+decimal_found InGame = from AT_DECIMAL_FOUND (2 ∷ 3 ∷ 4 ∷ 5 ∷ 6 ∷ 8 ∷ 9 ∷ 10 ∷ [])
+decimal_found answer = from AT_WRITE_OUTSIDE (0 ∷ 2 ∷ [])
 
 abbrev pub store_found : Answer → List ℕ
-store_found InGame = from at_store_found (2 ∷ 4 ∷ 5 ∷ 7 ∷ [])
-store_found answer = from at_write_outside (0 ∷ 2 ∷ [])
+store_found InGame = from AT_STORE_FOUND (2 ∷ 4 ∷ 5 ∷ 7 ∷ [])
+store_found answer = from AT_WRITE_OUTSIDE (0 ∷ 2 ∷ [])
 
 abbrev pub restore_found : Answer → List ℕ
-restore_found Nowhere = (at_restore_found + 2) ∷ from at_read_outside (0 ∷ 2 ∷ [])
-restore_found answer = from at_restore_found (2 ∷ 4 ∷ 6 ∷ 7 ∷ 9 ∷ [])
+restore_found Nowhere = (AT_RESTORE_FOUND + 2) ∷ from AT_READ_OUTSIDE (0 ∷ 2 ∷ [])
+restore_found answer = from AT_RESTORE_FOUND (2 ∷ 4 ∷ 6 ∷ 7 ∷ 9 ∷ [])
 
 abbrev pub memory_data : MemoryBlock → BlockData
-memory_data Index = block (λ x b s sets. Enters x at_index 10 b s) (λ x s. Exactly 80) at_index (1 ∷ 3 ∷ 4 ∷ 5 ∷ 6 ∷ [])
+memory_data Index = block (λ x b s sets. Enters x AT_INDEX 10 b s) (λ x s. Exactly 80) AT_INDEX (1 ∷ 3 ∷ 4 ∷ 5 ∷ 6 ∷ [])
 memory_data AddIndex =
-    block (λ x b s sets. Enters x at_add_index 15 b s × (low_byte s ≡ 0x1e)) (λ x s. Exactly 110) at_add_index (1 ∷ 2 ∷ 3 ∷ 4 ∷ 5 ∷ 7 ∷ 8 ∷ [])
+    block (λ x b s sets. Enters x AT_ADD_INDEX 15 b s × (low_byte s ≡ 0x1e)) (λ x s. Exactly 110) AT_ADD_INDEX (1 ∷ 2 ∷ 3 ∷ 4 ∷ 5 ∷ 7 ∷ 8 ∷ [])
 memory_data Digit =
-    block (λ x b s sets. Enters x at_digit 15 b s × (low_byte s ≡ 0x29)) (λ x s. Exactly 116)
-    at_digit (2 ∷ 3 ∷ 5 ∷ 6 ∷ 7 ∷ 8 ∷ 10 ∷ 11 ∷ 12 ∷ 13 ∷ 14 ∷ 15 ∷ 17 ∷ 18 ∷ [])
-memory_data (Check c) = block (λ x b s sets. Checking x c at_check b s) (λ x s. Exactly (call_time c)) at_check (2 ∷ 3 ∷ 5 ∷ 6 ∷ 7 ∷ 8 ∷ 9 ∷ 10 ∷ 12 ∷ [])
+    block (λ x b s sets. Enters x AT_DIGIT 15 b s × (low_byte s ≡ 0x29)) (λ x s. Exactly 116)
+    AT_DIGIT (2 ∷ 3 ∷ 5 ∷ 6 ∷ 7 ∷ 8 ∷ 10 ∷ 11 ∷ 12 ∷ 13 ∷ 14 ∷ 15 ∷ 17 ∷ 18 ∷ [])
+memory_data (Check c) = block (λ x b s sets. Checking x c AT_CHECK b s) (λ x s. Exactly (call_time c)) AT_CHECK (2 ∷ 3 ∷ 5 ∷ 6 ∷ 7 ∷ 8 ∷ 9 ∷ 10 ∷ 12 ∷ [])
 memory_data (CheckGame c) =
-    block (λ x b s sets. Comparing x c at_check_game b s × (memory_start ≤ s.i)) (λ x s. Exactly (call_time c + 20)) at_check_game (1 ∷ 3 ∷ 4 ∷ 5 ∷ 7 ∷ [])
+    block (λ x b s sets. Comparing x c AT_CHECK_GAME b s × (memory_start ≤ s.i)) (λ x s. Exactly (call_time c + 20)) AT_CHECK_GAME (1 ∷ 3 ∷ 4 ∷ 5 ∷ 7 ∷ [])
 memory_data (CheckFont c) =
-    block (λ x b s sets. Comparing x c at_check_font b s × (is_in_memory x.edition s.i (count_of c s) ≡ false) × (memory_start ≤ s.i))
-    (λ x s. Exactly (call_time c + 32)) at_check_font (1 ∷ 3 ∷ [])
+    block (λ x b s sets. Comparing x c AT_CHECK_FONT b s × (is_in_memory x.edition s.i (count_of c s) ≡ false) × (memory_start ≤ s.i))
+    (λ x s. Exactly (call_time c + 32)) AT_CHECK_FONT (1 ∷ 3 ∷ [])
 memory_data (CheckLow c) =
-    block (λ x b s sets. Comparing x c at_check_low b s × (is_in_memory x.edition s.i (count_of c s) ≡ false) × (s.i / 256 ≡ 0x87))
-    (λ x s. Exactly (call_time c + 38)) at_check_low (1 ∷ 3 ∷ 4 ∷ [])
+    block (λ x b s sets. Comparing x c AT_CHECK_LOW b s × (is_in_memory x.edition s.i (count_of c s) ≡ false) × (s.i / 256 ≡ 0x87))
+    (λ x s. Exactly (call_time c + 38)) AT_CHECK_LOW (1 ∷ 3 ∷ 4 ∷ [])
 memory_data (Answering c answer) =
     block (λ x b s sets. Checking x c (answer_label answer) b s × IsAnswer x.edition answer s.i (count_of c s))
     (λ x s. Exactly (call_time c + answer_time answer s.i)) (answer_label answer) (2 ∷ [])
-memory_data Decimal = block (λ x b s sets. Enters x at_decimal 15 b s × (low_byte s ≡ 0x33)) (λ x s. Exactly 122) at_decimal (2 ∷ 3 ∷ 5 ∷ 6 ∷ 8 ∷ 9 ∷ [])
+memory_data Decimal = block (λ x b s sets. Enters x AT_DECIMAL 15 b s × (low_byte s ≡ 0x33)) (λ x s. Exactly 122) AT_DECIMAL (2 ∷ 3 ∷ 5 ∷ 6 ∷ 8 ∷ 9 ∷ [])
 memory_data (DecimalFound answer) =
-    block_over (λ x b s sets. Checked x ForDecimal answer b s) (λ x s. Exactly (140 + answer_time answer s.i)) at_decimal_found (decimal_found answer)
+    block_over (λ x b s sets. Checked x ForDecimal answer b s) (λ x s. Exactly (140 + answer_time answer s.i)) AT_DECIMAL_FOUND (decimal_found answer)
 memory_data (Hundreds k) =
-    block (λ x b s sets. Dividing x at_hundreds k 0 (variable_x s - k * 100) b s × (k * 100 ≤ variable_x s)) (λ x s. Exactly (190 + 6 * k))
-    at_hundreds (1 ∷ 3 ∷ [])
+    block (λ x b s sets. Dividing x AT_HUNDREDS k 0 (variable_x s - k * 100) b s × (k * 100 ≤ variable_x s)) (λ x s. Exactly (190 + 6 * k))
+    AT_HUNDREDS (1 ∷ 3 ∷ [])
 memory_data HundredsEnd =
-    block (λ x b s sets. Dividing x at_hundreds_end (variable_x s / 100 + 1) 0 (variable_x s % 100 + 156) b s) (λ x s. Exactly (196 + 6 * (variable_x s / 100)))
-    at_hundreds_end (1 ∷ [])
+    block (λ x b s sets. Dividing x AT_HUNDREDS_END (variable_x s / 100 + 1) 0 (variable_x s % 100 + 156) b s) (λ x s. Exactly (196 + 6 * (variable_x s / 100)))
+    AT_HUNDREDS_END (1 ∷ [])
 memory_data (Tens k) =
-    block (λ x b s sets. Dividing x at_tens (variable_x s / 100) k (variable_x s % 100 - k * 10) b s × (k * 10 ≤ variable_x s % 100))
-    (λ x s. Exactly (200 + 6 * (variable_x s / 100) + 6 * k)) at_tens (1 ∷ 3 ∷ [])
+    block (λ x b s sets. Dividing x AT_TENS (variable_x s / 100) k (variable_x s % 100 - k * 10) b s × (k * 10 ≤ variable_x s % 100))
+    (λ x s. Exactly (200 + 6 * (variable_x s / 100) + 6 * k)) AT_TENS (1 ∷ 3 ∷ [])
 memory_data TensEnd =
-    block (λ x b s sets. Dividing x at_tens_end (variable_x s / 100) (variable_x s / 10 % 10 + 1) (variable_x s % 10 + 246) b s)
-    (λ x s. Exactly (206 + 6 * (variable_x s / 100 + variable_x s / 10 % 10))) at_tens_end (1 ∷ 3 ∷ 4 ∷ 5 ∷ 6 ∷ 7 ∷ 8 ∷ 9 ∷ 10 ∷ 11 ∷ 12 ∷ [])
-memory_data Store = block (λ x b s sets. Enters x at_store 15 b s × (low_byte s ≡ 0x55)) (λ x s. Exactly 128) at_store (1 ∷ 3 ∷ 5 ∷ 6 ∷ 8 ∷ 9 ∷ 11 ∷ 12 ∷ [])
+    block (λ x b s sets. Dividing x AT_TENS_END (variable_x s / 100) (variable_x s / 10 % 10 + 1) (variable_x s % 10 + 246) b s)
+    (λ x s. Exactly (206 + 6 * (variable_x s / 100 + variable_x s / 10 % 10))) AT_TENS_END (1 ∷ 3 ∷ 4 ∷ 5 ∷ 6 ∷ 7 ∷ 8 ∷ 9 ∷ 10 ∷ 11 ∷ 12 ∷ [])
+memory_data Store = block (λ x b s sets. Enters x AT_STORE 15 b s × (low_byte s ≡ 0x55)) (λ x s. Exactly 128) AT_STORE (1 ∷ 3 ∷ 5 ∷ 6 ∷ 8 ∷ 9 ∷ 11 ∷ 12 ∷ [])
 memory_data (StoreFound answer) =
-    block_over (λ x b s sets. Checked x ForStore answer b s) (λ x s. Exactly (150 + answer_time answer s.i)) at_store_found (store_found answer)
+    block_over (λ x b s sets. Checked x ForStore answer b s) (λ x s. Exactly (150 + answer_time answer s.i)) AT_STORE_FOUND (store_found answer)
 memory_data (StoreByte k) =
-    block (λ x b s sets. Copying x ForStore at_store_byte (stored_to k s) b s × Turn x k b s × (is_in_memory x.edition s.i (last_of s + 1) ≡ true))
-    (λ x s. Exactly (192 + 12 * k)) at_store_byte (1 ∷ 2 ∷ 3 ∷ 4 ∷ 5 ∷ [])
+    block (λ x b s sets. Copying x ForStore AT_STORE_BYTE (stored_to k s) b s × Turn x k b s × (is_in_memory x.edition s.i (last_of s + 1) ≡ true))
+    (λ x s. Exactly (192 + 12 * k)) AT_STORE_BYTE (1 ∷ 2 ∷ 3 ∷ 4 ∷ 5 ∷ [])
 memory_data StoreEnd =
-    block (λ x b s sets. Copying x ForStore at_store_end (stored_to (last_of s + 1) s) b s × (is_in_memory x.edition s.i (last_of s + 1) ≡ true))
-    (λ x s. Exactly (204 + 12 * last_of s)) at_store_end []
+    block (λ x b s sets. Copying x ForStore AT_STORE_END (stored_to (last_of s + 1) s) b s × (is_in_memory x.edition s.i (last_of s + 1) ≡ true))
+    (λ x s. Exactly (204 + 12 * last_of s)) AT_STORE_END []
 memory_data Restore =
-    block (λ x b s sets. Enters x at_restore 15 b s × (low_byte s ≡ 0x65)) (λ x s. Exactly 134) at_restore (1 ∷ 3 ∷ 5 ∷ 6 ∷ 8 ∷ 9 ∷ 11 ∷ 12 ∷ [])
+    block (λ x b s sets. Enters x AT_RESTORE 15 b s × (low_byte s ≡ 0x65)) (λ x s. Exactly 134) AT_RESTORE (1 ∷ 3 ∷ 5 ∷ 6 ∷ 8 ∷ 9 ∷ 11 ∷ 12 ∷ [])
 memory_data (RestoreFound answer) =
-    block_over (λ x b s sets. Checked x ForRestore answer b s) (λ x s. Exactly (156 + answer_time answer s.i)) at_restore_found (restore_found answer)
+    block_over (λ x b s sets. Checked x ForRestore answer b s) (λ x s. Exactly (156 + answer_time answer s.i)) AT_RESTORE_FOUND (restore_found answer)
 memory_data (RestoreByte k) =
-    block (λ x b s sets. Copying x ForRestore at_restore_byte (fetched_to k s) b s × Turn x k b s × (is_readable x.edition s.i (last_of s + 1) ≡ true))
-    (λ x s. Exactly (200 + check_cycles x.edition s (last_of s + 1) + 12 * k)) at_restore_byte (1 ∷ 2 ∷ 3 ∷ 4 ∷ 5 ∷ [])
+    block (λ x b s sets. Copying x ForRestore AT_RESTORE_BYTE (fetched_to k s) b s × Turn x k b s × (is_readable x.edition s.i (last_of s + 1) ≡ true))
+    (λ x s. Exactly (200 + check_cycles x.edition s (last_of s + 1) + 12 * k)) AT_RESTORE_BYTE (1 ∷ 2 ∷ 3 ∷ 4 ∷ 5 ∷ [])
 memory_data RestoreEnd =
-    block (λ x b s sets. Copying x ForRestore at_restore_end (fetched_to (last_of s + 1) s) b s × (is_readable x.edition s.i (last_of s + 1) ≡ true))
-    (λ x s. Exactly (212 + check_cycles x.edition s (last_of s + 1) + 12 * last_of s)) at_restore_end []
+    block (λ x b s sets. Copying x ForRestore AT_RESTORE_END (fetched_to (last_of s + 1) s) b s × (is_readable x.edition s.i (last_of s + 1) ≡ true))
+    (λ x s. Exactly (212 + check_cycles x.edition s (last_of s + 1) + 12 * last_of s)) AT_RESTORE_END []

@@ -1,5 +1,5 @@
 -- The blocks and places of 00E0 and DXYN.
-use Rattle.std.specs.Prelude.{◌≡◌, ℕ, ◌+◌, ◌-◌, ◌*◌, ◌/◌, ◌%◌, ◌^◌, ◌<◌, ◌≤◌, true, false, not, ◌==◌, ◌&&◌, ◌||◌, nat_lt, List, [], ◌∷◌, ◌++◌, slice_index}
+use Rattle.std.specs.Prelude.{◌≡◌, ℕ, ◌+◌, ◌-◌, ◌*◌, ◌/◌, ◌%◌, ◌^◌, ◌<◌, ◌≤◌, true, false, not, ◌==◌, ◌&&◌, ◌||◌, nat_lt, List, [], ◌∷◌, slice_index}
 use Rattle.machine.specs.Bank.{word, value, word_of}
 use Rattle.machine.specs.Board.{Machine}
 use Rattle.chip8_lang.specs.Editions.{screen_start, rows_of, sprite_work}
@@ -8,11 +8,11 @@ use Rattle.chip8_lang.specs.Screen.{Pixels, difference, either, meets, dots}
 use Rattle.chip8_lang.specs.State.{Lang, variable, is_fetchable}
 use Rattle.chip8_lang.specs.Step.{next, is_readable, sprite_row}
 use Rattle.chip8_lang.specs.Timed.{asked_cycles, edge_cycles, row_cycles}
-use Rattle.chip8_image.specs.Labels.{at_fetch, at_clear, at_clear_wait, at_wipe, at_wipe3, at_wipe6, at_wiped, at_cleared, at_draw, at_draw_check, at_draw_found, at_draw_outside, at_place, at_edge, at_fits, at_angle, at_begin, at_row, at_row_byte, at_shift7, at_shifted, at_row_right, at_row_store, at_ready, at_draw_wait, at_line, at_line_left, at_line_right, at_drawn}
+use Rattle.chip8_image.specs.declared.image.labels.TheConstants.{AT_FETCH, AT_CLEAR, AT_CLEAR_WAIT, AT_WIPE, AT_WIPE3, AT_WIPE6, AT_WIPED, AT_CLEARED, AT_DRAW, AT_DRAW_CHECK, AT_DRAW_FOUND, AT_DRAW_OUTSIDE, AT_PLACE, AT_EDGE, AT_FITS, AT_ANGLE, AT_BEGIN, AT_ROW, AT_ROW_BYTE, AT_SHIFT7, AT_SHIFTED, AT_ROW_RIGHT, AT_ROW_STORE, AT_READY, AT_DRAW_WAIT, AT_LINE, AT_LINE_LEFT, AT_LINE_RIGHT, AT_DRAWN}
 use Rattle.rom_law.specs.Program.{Program}
 use Rattle.rom_law.specs.Holding.{places, Holding}
 use Rattle.rom_rows.specs.Blocks.{BlockData, PlaceData, block, block_over, place}
-use Rattle.rom_rows.specs.Heads.{Time, from, high_byte, low_byte, page_of, Entered, Enters, Done}
+use Rattle.rom_rows.specs.Heads.{from, high_byte, low_byte, page_of, Entered, Enters, Done}
 use Rattle.rom_rows.specs.Heads.Time.{Exactly, Waited}
 use Rattle.rom_rows.specs.Checks.{Answer, answer_time, Checked}
 use Rattle.rom_rows.specs.Checks.Caller.{ForDraw}
@@ -87,7 +87,7 @@ pub record Clearing (x : Program) (a m : ℕ) (b : Machine) (s : Lang) : Type 0 
   pub clears : Clears s
   pub p : b.regs.p ≡ 3
   pub r3 : b.regs.r.r3 ≡ word_of a
-  pub r4 : b.regs.r.r4 ≡ word_of at_fetch
+  pub r4 : b.regs.r.r4 ≡ word_of AT_FETCH
   pub pointer : b.regs.x ≡ 13
   pub rd : value b.regs.r.rd + 1 ≡ screen_start x.edition + m
 
@@ -112,7 +112,7 @@ corner e s = screen_start e + 8 * top e s + column s / 8
 
 -- the low byte of the shift at which column mod 8 of them are left
 abbrev pub entry_of : Lang → ℕ
-entry_of s = at_shift7 % 256 + 6 * (7 - column s % 8)
+entry_of s = AT_SHIFT7 % 256 + 6 * (7 - column s % 8)
 
 -- the dots of its first r rows
 abbrev pub lit : Edition → ℕ → Lang → Pixels
@@ -134,7 +134,7 @@ pub record Aiming (x : Program) (a n : ℕ) (b : Machine) (s : Lang) : Type 0 wh
   pub holds : Holding x (places b) (next s)
   pub p : b.regs.p ≡ 3
   pub r3 : b.regs.r.r3 ≡ word_of a
-  pub r4 : b.regs.r.r4 ≡ word_of at_fetch
+  pub r4 : b.regs.r.r4 ≡ word_of AT_FETCH
   pub r6 : b.regs.r.r6 ≡ word (page_of x.edition) (0xf0 + high_byte s % 16)
   pub r7 : b.regs.r.r7 ≡ word (page_of x.edition) (0xf0 + low_byte s / 16)
   pub count : b.regs.r.re.lo ≡ n
@@ -161,7 +161,7 @@ pub record Preparing (x : Program) (a l r n : ℕ) (b : Machine) (s : Lang) : Ty
   pub prepared : Prepared x l r b s
   pub p : b.regs.p ≡ 3
   pub r3 : b.regs.r.r3 ≡ word_of a
-  pub r4 : b.regs.r.r4 ≡ word_of at_fetch
+  pub r4 : b.regs.r.r4 ≡ word_of AT_FETCH
   pub entry : b.regs.r.r6.lo ≡ entry_of s
   pub place : b.regs.r.r6.hi * 256 + b.regs.r.rb.lo ≡ corner x.edition s
   pub rows : b.regs.r.re.hi ≡ height x.edition s
@@ -185,7 +185,7 @@ pub record Painting (x : Program) (a w m n : ℕ) (drawn : Pixels) (b : Machine)
   pub prepared : Prepared x (height x.edition s) (height x.edition s) b s
   pub p : b.regs.p ≡ 3
   pub r3 : b.regs.r.r3 ≡ word_of a
-  pub r4 : b.regs.r.r4 ≡ word_of at_fetch
+  pub r4 : b.regs.r.r4 ≡ word_of AT_FETCH
   pub pointer : b.regs.x ≡ 13
   pub r7 : b.regs.r.r7 ≡ word (page_of x.edition) (0xd0 + w)
   pub rd : value b.regs.r.rd ≡ corner x.edition s + m
@@ -244,87 +244,87 @@ IsEarly _ = Unit {0}
 
 -- what DXYN has behind its first instruction after the check, by the answer
 abbrev pub draw_found : Answer → List ℕ
-draw_found Nowhere = (at_draw_found + 2) ∷ from at_draw_outside (0 ∷ 2 ∷ [])
-draw_found answer = from at_draw_found (2 ∷ [])
+draw_found Nowhere = (AT_DRAW_FOUND + 2) ∷ from AT_DRAW_OUTSIDE (0 ∷ 2 ∷ [])
+draw_found answer = from AT_DRAW_FOUND (2 ∷ [])
 
 -- behind the wait of 00E0 a row is cleared in 24 main cycles; DXYN draws one in 58
 abbrev pub sprite_data : SpriteBlock → BlockData
-sprite_data Clear = block (λ x b s sets. Entered x at_clear b s × Clears s) (λ x s. Exactly 90) at_clear (2 ∷ 3 ∷ 5 ∷ 6 ∷ [])
+sprite_data Clear = block (λ x b s sets. Entered x AT_CLEAR b s × Clears s) (λ x s. Exactly 90) AT_CLEAR (2 ∷ 3 ∷ 5 ∷ 6 ∷ [])
 sprite_data (Wipe k) =
-    block (λ x b s sets. Clearing x at_wipe (8 * k + 8) b s × (k < rows_of x.edition)) (λ x s. Waited (102 + 24 * (rows_of x.edition - 1 - k)))
-    at_wipe (2 ∷ 3 ∷ [])
+    block (λ x b s sets. Clearing x AT_WIPE (8 * k + 8) b s × (k < rows_of x.edition)) (λ x s. Waited (102 + 24 * (rows_of x.edition - 1 - k)))
+    AT_WIPE (2 ∷ 3 ∷ [])
 sprite_data (Wipe3 k) =
-    block (λ x b s sets. Clearing x at_wipe3 (8 * k + 6) b s × (k < rows_of x.edition) × (b.regs.d ≡ 0))
-    (λ x s. Waited (108 + 24 * (rows_of x.edition - 1 - k))) at_wipe3 (1 ∷ 2 ∷ [])
+    block (λ x b s sets. Clearing x AT_WIPE3 (8 * k + 6) b s × (k < rows_of x.edition) × (b.regs.d ≡ 0))
+    (λ x s. Waited (108 + 24 * (rows_of x.edition - 1 - k))) AT_WIPE3 (1 ∷ 2 ∷ [])
 sprite_data (Wipe6 k) =
-    block (λ x b s sets. Clearing x at_wipe6 (8 * k + 3) b s × (k < rows_of x.edition) × (b.regs.d ≡ 0))
-    (λ x s. Waited (114 + 24 * (rows_of x.edition - 1 - k))) at_wipe6 (1 ∷ 2 ∷ [])
+    block (λ x b s sets. Clearing x AT_WIPE6 (8 * k + 3) b s × (k < rows_of x.edition) × (b.regs.d ≡ 0))
+    (λ x s. Waited (114 + 24 * (rows_of x.edition - 1 - k))) AT_WIPE6 (1 ∷ 2 ∷ [])
 sprite_data (Wiped k) =
-    block (λ x b s sets. Clearing x at_wiped (8 * k) b s × (k < rows_of x.edition)) (λ x s. Waited (120 + 24 * (rows_of x.edition - 1 - k)))
-    at_wiped (1 ∷ 3 ∷ [])
-sprite_data Cleared = block (λ x b s sets. Done x at_cleared b s × Clears s) (λ x s. Waited (102 + 24 * rows_of x.edition)) at_cleared []
-sprite_data Draw = block (λ x b s sets. Enters x at_draw 13 b s) (λ x s. Exactly 80) at_draw (1 ∷ 3 ∷ 4 ∷ [])
+    block (λ x b s sets. Clearing x AT_WIPED (8 * k) b s × (k < rows_of x.edition)) (λ x s. Waited (120 + 24 * (rows_of x.edition - 1 - k)))
+    AT_WIPED (1 ∷ 3 ∷ [])
+sprite_data Cleared = block (λ x b s sets. Done x AT_CLEARED b s × Clears s) (λ x s. Waited (102 + 24 * rows_of x.edition)) AT_CLEARED []
+sprite_data Draw = block (λ x b s sets. Enters x AT_DRAW 13 b s) (λ x s. Exactly 80) AT_DRAW (1 ∷ 3 ∷ 4 ∷ [])
 sprite_data DrawCheck =
-    block (λ x b s sets. Enters x at_draw_check 13 b s × (b.regs.r.re.lo ≡ asked s) × (0 < asked s)) (λ x s. Exactly 88) at_draw_check (2 ∷ 3 ∷ 5 ∷ 6 ∷ [])
+    block (λ x b s sets. Enters x AT_DRAW_CHECK 13 b s × (b.regs.r.re.lo ≡ asked s) × (0 < asked s)) (λ x s. Exactly 88) AT_DRAW_CHECK (2 ∷ 3 ∷ 5 ∷ 6 ∷ [])
 sprite_data (DrawFound answer) =
-    block_over (λ x b s sets. Checked x ForDraw answer b s) (λ x s. Exactly (102 + answer_time answer s.i)) at_draw_found (draw_found answer)
+    block_over (λ x b s sets. Checked x ForDraw answer b s) (λ x s. Exactly (102 + answer_time answer s.i)) AT_DRAW_FOUND (draw_found answer)
 sprite_data Place =
-    block (λ x b s sets. Aiming x at_place (asked s) b s) (λ x s. Exactly (88 + aim_time x.edition s))
-    at_place (2 ∷ 3 ∷ 5 ∷ 6 ∷ 7 ∷ 8 ∷ 10 ∷ 12 ∷ 13 ∷ 14 ∷ 15 ∷ [])
+    block (λ x b s sets. Aiming x AT_PLACE (asked s) b s) (λ x s. Exactly (88 + aim_time x.edition s))
+    AT_PLACE (2 ∷ 3 ∷ 5 ∷ 6 ∷ 7 ∷ 8 ∷ 10 ∷ 12 ∷ 13 ∷ 14 ∷ 15 ∷ [])
 sprite_data Edge =
-    block (λ x b s sets. Aiming x at_edge (asked s) b s × Summing x b × (rows_of x.edition ≤ top x.edition s + asked s))
-    (λ x s. Exactly (112 + aim_time x.edition s)) at_edge (1 ∷ 3 ∷ 5 ∷ [])
+    block (λ x b s sets. Aiming x AT_EDGE (asked s) b s × Summing x b × (rows_of x.edition ≤ top x.edition s + asked s))
+    (λ x s. Exactly (112 + aim_time x.edition s)) AT_EDGE (1 ∷ 3 ∷ 5 ∷ [])
 sprite_data Fits =
-    block (λ x b s sets. Aiming x at_fits (height x.edition s) b s × Summing x b) (λ x s. Exactly (112 + aim_time x.edition s + edge_time x.edition s))
-    at_fits (1 ∷ 2 ∷ 3 ∷ 5 ∷ 6 ∷ 7 ∷ 8 ∷ 9 ∷ 11 ∷ 13 ∷ 14 ∷ 15 ∷ 17 ∷ 18 ∷ 19 ∷ 20 ∷ 21 ∷ 22 ∷ 23 ∷ [])
+    block (λ x b s sets. Aiming x AT_FITS (height x.edition s) b s × Summing x b) (λ x s. Exactly (112 + aim_time x.edition s + edge_time x.edition s))
+    AT_FITS (1 ∷ 2 ∷ 3 ∷ 5 ∷ 6 ∷ 7 ∷ 8 ∷ 9 ∷ 11 ∷ 13 ∷ 14 ∷ 15 ∷ 17 ∷ 18 ∷ 19 ∷ 20 ∷ 21 ∷ 22 ∷ 23 ∷ [])
 sprite_data Angle =
-    block (λ x b s sets. Aiming x at_angle (height x.edition s) b s × Summing x b × Aimed x b s)
-    (λ x s. Exactly (152 + aim_time x.edition s + edge_time x.edition s)) at_angle (1 ∷ 3 ∷ 5 ∷ 6 ∷ 7 ∷ 8 ∷ 9 ∷ 11 ∷ [])
+    block (λ x b s sets. Aiming x AT_ANGLE (height x.edition s) b s × Summing x b × Aimed x b s)
+    (λ x s. Exactly (152 + aim_time x.edition s + edge_time x.edition s)) AT_ANGLE (1 ∷ 3 ∷ 5 ∷ 6 ∷ 7 ∷ 8 ∷ 9 ∷ 11 ∷ [])
 sprite_data Begin =
-    block (λ x b s sets. Aiming x at_begin (height x.edition s) b s × Aimed x b s × (b.regs.r.rc.lo ≡ entry_of s))
-    (λ x s. Exactly (170 + aim_time x.edition s + edge_time x.edition s)) at_begin (1 ∷ 2 ∷ 3 ∷ 4 ∷ 6 ∷ 7 ∷ 9 ∷ 10 ∷ 11 ∷ 12 ∷ 13 ∷ [])
+    block (λ x b s sets. Aiming x AT_BEGIN (height x.edition s) b s × Aimed x b s × (b.regs.r.rc.lo ≡ entry_of s))
+    (λ x s. Exactly (170 + aim_time x.edition s + edge_time x.edition s)) AT_BEGIN (1 ∷ 2 ∷ 3 ∷ 4 ∷ 6 ∷ 7 ∷ 9 ∷ 10 ∷ 11 ∷ 12 ∷ 13 ∷ [])
 sprite_data (Row r) =
-    block (λ x b s sets. Preparing x at_row r r r b s × (r ≤ height x.edition s))
-    (λ x s. Exactly (194 + aim_time x.edition s + edge_time x.edition s + rows_time s r)) at_row (1 ∷ [])
+    block (λ x b s sets. Preparing x AT_ROW r r r b s × (r ≤ height x.edition s))
+    (λ x s. Exactly (194 + aim_time x.edition s + edge_time x.edition s + rows_time s r)) AT_ROW (1 ∷ [])
 sprite_data (RowByte r) =
-    block (λ x b s sets. Preparing x at_row_byte r r r b s × (r < height x.edition s))
-    (λ x s. Exactly (198 + aim_time x.edition s + edge_time x.edition s + rows_time s r)) at_row_byte (1 ∷ 2 ∷ 3 ∷ 5 ∷ 6 ∷ 7 ∷ [])
+    block (λ x b s sets. Preparing x AT_ROW_BYTE r r r b s × (r < height x.edition s))
+    (λ x s. Exactly (198 + aim_time x.edition s + edge_time x.edition s + rows_time s r)) AT_ROW_BYTE (1 ∷ 2 ∷ 3 ∷ 5 ∷ 6 ∷ 7 ∷ [])
 sprite_data (Shift r j) =
-    block (λ x b s sets. Preparing x (at_shift7 + 6 * (7 - j)) r r (r + 1) b s × (r < height x.edition s) × Shifting r j b s × (0 < j) × (j ≤ column s % 8))
+    block (λ x b s sets. Preparing x (AT_SHIFT7 + 6 * (7 - j)) r r (r + 1) b s × (r < height x.edition s) × Shifting r j b s × (0 < j) × (j ≤ column s % 8))
     (λ x s. Exactly (212 + aim_time x.edition s + edge_time x.edition s + rows_time s r + 12 * (column s % 8 - j)))
-    (at_shift7 + 6 * (7 - j)) (1 ∷ 2 ∷ 3 ∷ 4 ∷ 5 ∷ [])
+    (AT_SHIFT7 + 6 * (7 - j)) (1 ∷ 2 ∷ 3 ∷ 4 ∷ 5 ∷ [])
 sprite_data (Shifted r) =
-    block (λ x b s sets. Preparing x at_shifted r r (r + 1) b s × (r < height x.edition s) × Shifting r 0 b s)
-    (λ x s. Exactly (212 + aim_time x.edition s + edge_time x.edition s + rows_time s r + 12 * (column s % 8))) at_shifted (1 ∷ 2 ∷ 3 ∷ 4 ∷ 6 ∷ 8 ∷ [])
+    block (λ x b s sets. Preparing x AT_SHIFTED r r (r + 1) b s × (r < height x.edition s) × Shifting r 0 b s)
+    (λ x s. Exactly (212 + aim_time x.edition s + edge_time x.edition s + rows_time s r + 12 * (column s % 8))) AT_SHIFTED (1 ∷ 2 ∷ 3 ∷ 4 ∷ 6 ∷ 8 ∷ [])
 sprite_data (RowRight r) =
-    block (λ x b s sets. Preparing x at_row_right (r + 1) r (r + 1) b s × (r < height x.edition s) × (b.regs.r.rc.lo ≡ right (column s) (sprite_row s r)) × (column s / 8 ≡ 7 → ⊥))
-    (λ x s. Exactly (226 + aim_time x.edition s + edge_time x.edition s + rows_time s r + 12 * (column s % 8))) at_row_right []
+    block (λ x b s sets. Preparing x AT_ROW_RIGHT (r + 1) r (r + 1) b s × (r < height x.edition s) × (b.regs.r.rc.lo ≡ right (column s) (sprite_row s r)) × (column s / 8 ≡ 7 → ⊥))
+    (λ x s. Exactly (226 + aim_time x.edition s + edge_time x.edition s + rows_time s r + 12 * (column s % 8))) AT_ROW_RIGHT []
 sprite_data (RowStore r) =
-    block (λ x b s sets. Preparing x at_row_store (r + 1) r (r + 1) b s × (r < height x.edition s) × (b.regs.d ≡ right (column s) (sprite_row s r)))
-    (λ x s. Exactly (188 + aim_time x.edition s + edge_time x.edition s + rows_time s r + row_cycles (column s))) at_row_store (1 ∷ 2 ∷ [])
+    block (λ x b s sets. Preparing x AT_ROW_STORE (r + 1) r (r + 1) b s × (r < height x.edition s) × (b.regs.d ≡ right (column s) (sprite_row s r)))
+    (λ x s. Exactly (188 + aim_time x.edition s + edge_time x.edition s + rows_time s r + row_cycles (column s))) AT_ROW_STORE (1 ∷ 2 ∷ [])
 sprite_data Ready =
-    block (λ x b s sets. let h = height x.edition s in Preparing x at_ready h h h b s)
+    block (λ x b s sets. let h = height x.edition s in Preparing x AT_READY h h h b s)
     (λ x s. Exactly (198 + aim_time x.edition s + edge_time x.edition s + rows_time s (height x.edition s)))
-    at_ready (1 ∷ 2 ∷ 3 ∷ 4 ∷ 5 ∷ 6 ∷ 8 ∷ 9 ∷ 11 ∷ 12 ∷ [])
+    AT_READY (1 ∷ 2 ∷ 3 ∷ 4 ∷ 5 ∷ 6 ∷ 8 ∷ 9 ∷ 11 ∷ 12 ∷ [])
 sprite_data (Line r) =
-    block (λ x b s sets. Painting x at_line (2 * r) (8 * r) (height x.edition s - r) (lit x.edition r s) b s × (r ≤ height x.edition s))
-    (λ x s. Waited (draw_time x.edition s + 58 * r)) at_line (1 ∷ [])
+    block (λ x b s sets. Painting x AT_LINE (2 * r) (8 * r) (height x.edition s - r) (lit x.edition r s) b s × (r ≤ height x.edition s))
+    (λ x s. Waited (draw_time x.edition s + 58 * r)) AT_LINE (1 ∷ [])
 sprite_data (LineLeft r) =
-    block (λ x b s sets. Painting x at_line_left (2 * r) (8 * r) (height x.edition s - r) (lit x.edition r s) b s × (r < height x.edition s))
-    (λ x s. Waited (draw_time x.edition s + 58 * r + 4)) at_line_left (1 ∷ 2 ∷ 3 ∷ 5 ∷ 6 ∷ 8 ∷ 9 ∷ 10 ∷ 11 ∷ 12 ∷ [])
+    block (λ x b s sets. Painting x AT_LINE_LEFT (2 * r) (8 * r) (height x.edition s - r) (lit x.edition r s) b s × (r < height x.edition s))
+    (λ x s. Waited (draw_time x.edition s + 58 * r + 4)) AT_LINE_LEFT (1 ∷ 2 ∷ 3 ∷ 5 ∷ 6 ∷ 8 ∷ 9 ∷ 10 ∷ 11 ∷ 12 ∷ [])
 sprite_data (LineRight r) =
-    block (λ x b s sets. Painting x at_line_right (2 * r + 1) (8 * r + 1) (height x.edition s - (r + 1)) (half_lit x.edition r s) b s × (r < height x.edition s))
-    (λ x s. Waited (draw_time x.edition s + 58 * r + 26)) at_line_right (1 ∷ 2 ∷ 4 ∷ 5 ∷ 7 ∷ 8 ∷ 9 ∷ 10 ∷ 11 ∷ 12 ∷ 14 ∷ 15 ∷ 16 ∷ 18 ∷ 19 ∷ [])
+    block (λ x b s sets. Painting x AT_LINE_RIGHT (2 * r + 1) (8 * r + 1) (height x.edition s - (r + 1)) (half_lit x.edition r s) b s × (r < height x.edition s))
+    (λ x s. Waited (draw_time x.edition s + 58 * r + 26)) AT_LINE_RIGHT (1 ∷ 2 ∷ 4 ∷ 5 ∷ 7 ∷ 8 ∷ 9 ∷ 10 ∷ 11 ∷ 12 ∷ 14 ∷ 15 ∷ 16 ∷ 18 ∷ 19 ∷ [])
 sprite_data Drawn =
-    block (λ x b s sets. let h = height x.edition s in Painting x at_drawn (2 * h) (8 * h) 0 (lit x.edition h s) b s)
-    (λ x s. Waited (draw_time x.edition s + 58 * height x.edition s + 4)) at_drawn (2 ∷ 3 ∷ 5 ∷ 6 ∷ 7 ∷ 9 ∷ 11 ∷ 12 ∷ 13 ∷ [])
+    block (λ x b s sets. let h = height x.edition s in Painting x AT_DRAWN (2 * h) (8 * h) 0 (lit x.edition h s) b s)
+    (λ x s. Waited (draw_time x.edition s + 58 * height x.edition s + 4)) AT_DRAWN (2 ∷ 3 ∷ 5 ∷ 6 ∷ 7 ∷ 9 ∷ 11 ∷ 12 ∷ 13 ∷ [])
 
 abbrev pub sprite_place_data : SpritePlace → PlaceData
-sprite_place_data ClearWait = place (λ x b s sets. Clearing x at_clear_wait (8 * rows_of x.edition) b s) (λ x s. Exactly 100) at_clear_wait
-sprite_place_data ClearIdle = place (λ x b s sets. Clearing x at_wipe (8 * rows_of x.edition) (woken b) s × (b.regs.idle ≡ true)) (λ x s. Exactly 102) at_wipe
+sprite_place_data ClearWait = place (λ x b s sets. Clearing x AT_CLEAR_WAIT (8 * rows_of x.edition) b s) (λ x s. Exactly 100) AT_CLEAR_WAIT
+sprite_place_data ClearIdle = place (λ x b s sets. Clearing x AT_WIPE (8 * rows_of x.edition) (woken b) s × (b.regs.idle ≡ true)) (λ x s. Exactly 102) AT_WIPE
 sprite_place_data DrawWait =
-    place (λ x b s sets. Painting x at_draw_wait 0 0 (height x.edition s) (lit x.edition 0 s) b s) (λ x s. Exactly (draw_time x.edition s - 2)) at_draw_wait
+    place (λ x b s sets. Painting x AT_DRAW_WAIT 0 0 (height x.edition s) (lit x.edition 0 s) b s) (λ x s. Exactly (draw_time x.edition s - 2)) AT_DRAW_WAIT
 sprite_place_data DrawIdle =
-    place (λ x b s sets. Painting x at_line 0 0 (height x.edition s) (lit x.edition 0 s) (woken b) s × (b.regs.idle ≡ true))
+    place (λ x b s sets. Painting x AT_LINE 0 0 (height x.edition s) (lit x.edition 0 s) (woken b) s × (b.regs.idle ≡ true))
     (λ x s. Exactly (draw_time x.edition s))
-    at_line
+    AT_LINE

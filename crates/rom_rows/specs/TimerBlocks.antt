@@ -1,13 +1,13 @@
 -- The blocks and places of CXKK, FX07, FX15 and FX18.
-use Rattle.std.specs.Prelude.{◌≡◌, ℕ, ◌/◌, ◌%◌, List, [], ◌∷◌}
+use Rattle.std.specs.Prelude.{◌≡◌, ℕ, ◌/◌, ◌%◌, [], ◌∷◌}
 use Rattle.machine.specs.Bank.{word_of}
 use Rattle.machine.specs.Board.{Machine}
 use Rattle.chip8_lang.specs.Editions.{random_cell}
 use Rattle.chip8_lang.specs.State.{Lang, variable}
-use Rattle.chip8_image.specs.Labels.{at_random, at_random_count, at_random_mix, at_get_delay, at_get_delay_put, at_set_delay, at_set_delay_put, at_set_delay_end, at_set_sound, at_set_sound_put, at_set_sound_end}
+use Rattle.chip8_image.specs.declared.image.labels.TheConstants.{AT_RANDOM, AT_RANDOM_COUNT, AT_RANDOM_MIX, AT_GET_DELAY, AT_GET_DELAY_PUT, AT_SET_DELAY, AT_SET_DELAY_PUT, AT_SET_DELAY_END, AT_SET_SOUND, AT_SET_SOUND_PUT, AT_SET_SOUND_END}
 use Rattle.rom_law.specs.Program.{Program}
 use Rattle.rom_rows.specs.Blocks.{BlockData, PlaceData, block, place}
-use Rattle.rom_rows.specs.Heads.{Time, from, high_byte, low_byte, Enters, Done}
+use Rattle.rom_rows.specs.Heads.{high_byte, low_byte, Enters, Done}
 use Rattle.rom_rows.specs.Heads.Time.{Exactly, Met}
 
 pub data TimerBlock : Type 0 where
@@ -42,23 +42,23 @@ pub record Ended (x : Program) (a kk : ℕ) (b : Machine) (s : Lang) : Type 0 wh
   pub low : low_byte s ≡ kk
 
 abbrev pub timer_data : TimerBlock → BlockData
-timer_data Random = block (λ x b s sets. Enters x at_random 12 b s) (λ x s. Exactly 80) at_random (2 ∷ 3 ∷ 5 ∷ 6 ∷ [])
+timer_data Random = block (λ x b s sets. Enters x AT_RANDOM 12 b s) (λ x s. Exactly 80) AT_RANDOM (2 ∷ 3 ∷ 5 ∷ 6 ∷ [])
 timer_data RandomMix =
-    block (λ x b s sets. Enters x at_random_mix 12 b s × Mixes b × (b.regs.d ≡ s.n % 256)) (λ x s. Met 92 90)
-    at_random_mix (1 ∷ 2 ∷ 3 ∷ 4 ∷ 5 ∷ 7 ∷ 8 ∷ 9 ∷ 10 ∷ 11 ∷ [])
+    block (λ x b s sets. Enters x AT_RANDOM_MIX 12 b s × Mixes b × (b.regs.d ≡ s.n % 256)) (λ x s. Met 92 90)
+    AT_RANDOM_MIX (1 ∷ 2 ∷ 3 ∷ 4 ∷ 5 ∷ 7 ∷ 8 ∷ 9 ∷ 10 ∷ 11 ∷ [])
 timer_data GetDelayPut =
-    block (λ x b s sets. Enters x at_get_delay_put 15 b s × (low_byte s ≡ 0x07) × (b.regs.d ≡ s.dt)) (λ x s. Met 88 86) at_get_delay_put (1 ∷ [])
-timer_data SetDelay = block (λ x b s sets. Enters x at_set_delay 15 b s × (low_byte s ≡ 0x15)) (λ x s. Exactly 98) at_set_delay []
-timer_data SetDelayEnd = block (λ x b s sets. Ended x at_set_delay_end 0x15 b s) (λ x s. Met 102 100) at_set_delay_end []
-timer_data SetSound = block (λ x b s sets. Enters x at_set_sound 15 b s × (low_byte s ≡ 0x18)) (λ x s. Exactly 104) at_set_sound []
-timer_data SetSoundEnd = block (λ x b s sets. Ended x at_set_sound_end 0x18 b s) (λ x s. Met 108 106) at_set_sound_end []
+    block (λ x b s sets. Enters x AT_GET_DELAY_PUT 15 b s × (low_byte s ≡ 0x07) × (b.regs.d ≡ s.dt)) (λ x s. Met 88 86) AT_GET_DELAY_PUT (1 ∷ [])
+timer_data SetDelay = block (λ x b s sets. Enters x AT_SET_DELAY 15 b s × (low_byte s ≡ 0x15)) (λ x s. Exactly 98) AT_SET_DELAY []
+timer_data SetDelayEnd = block (λ x b s sets. Ended x AT_SET_DELAY_END 0x15 b s) (λ x s. Met 102 100) AT_SET_DELAY_END []
+timer_data SetSound = block (λ x b s sets. Enters x AT_SET_SOUND 15 b s × (low_byte s ≡ 0x18)) (λ x s. Exactly 104) AT_SET_SOUND []
+timer_data SetSoundEnd = block (λ x b s sets. Ended x AT_SET_SOUND_END 0x18 b s) (λ x s. Met 108 106) AT_SET_SOUND_END []
 
 abbrev pub timer_place_data : TimerPlace → PlaceData
-timer_place_data RandomCount = place (λ x b s sets. Enters x at_random_count 12 b s × Mixes b) (λ x s. Exactly 90) at_random_count
-timer_place_data GetDelay = place (λ x b s sets. Enters x at_get_delay 15 b s × (low_byte s ≡ 0x07)) (λ x s. Exactly 86) at_get_delay
+timer_place_data RandomCount = place (λ x b s sets. Enters x AT_RANDOM_COUNT 12 b s × Mixes b) (λ x s. Exactly 90) AT_RANDOM_COUNT
+timer_place_data GetDelay = place (λ x b s sets. Enters x AT_GET_DELAY 15 b s × (low_byte s ≡ 0x07)) (λ x s. Exactly 86) AT_GET_DELAY
 timer_place_data SetDelayPut =
-    place (λ x b s sets. Enters x at_set_delay_put 15 b s × (low_byte s ≡ 0x15) × (b.regs.d ≡ variable s (high_byte s % 16))) (λ x s. Exactly 100)
-    at_set_delay_put
+    place (λ x b s sets. Enters x AT_SET_DELAY_PUT 15 b s × (low_byte s ≡ 0x15) × (b.regs.d ≡ variable s (high_byte s % 16))) (λ x s. Exactly 100)
+    AT_SET_DELAY_PUT
 timer_place_data SetSoundPut =
-    place (λ x b s sets. Enters x at_set_sound_put 15 b s × (low_byte s ≡ 0x18) × (b.regs.d ≡ variable s (high_byte s % 16))) (λ x s. Exactly 106)
-    at_set_sound_put
+    place (λ x b s sets. Enters x AT_SET_SOUND_PUT 15 b s × (low_byte s ≡ 0x18) × (b.regs.d ≡ variable s (high_byte s % 16))) (λ x s. Exactly 106)
+    AT_SET_SOUND_PUT

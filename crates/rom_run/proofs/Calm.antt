@@ -5,9 +5,8 @@ use Rattle.machine.specs.Board.{Machine, opcode_of}
 use Rattle.machine.specs.Instruction.{Regs, Inputs, stepped, executed}
 use Rattle.machine.specs.Ranges.{FitsMachine}
 use Rattle.machine.specs.Schedule.{Tick}
-use Rattle.chip8_image.specs.Labels.{at_clear_wait, at_draw_wait, at_key_test, at_key_held, at_random_count, at_get_delay, at_set_delay_put, at_set_sound_put}
+use Rattle.chip8_image.specs.declared.image.labels.TheConstants.{AT_CLEAR_WAIT, AT_DRAW_WAIT, AT_KEY_TEST, AT_KEY_HELD, AT_RANDOM_COUNT, AT_GET_DELAY, AT_SET_DELAY_PUT, AT_SET_SOUND_PUT}
 use Rattle.chip8_lang.specs.declared.view.Edition.{Edition}
-use Rattle.chip8_lang.specs.declared.view.Edition.TheVariants.{Usual, Tall}
 use Rattle.chip8_lang.specs.Editions.{stack_top, screen_start, rows_of}
 use Rattle.chip8_lang.specs.Places.{state_of, pixels}
 use Rattle.chip8_lang.specs.State.{Lang}
@@ -31,7 +30,7 @@ use Rattle.rom_rows.specs.Rom.{vip, program_of}
 use Rattle.rom_rows.specs.Table.{Place, At, pieces, calm_pieces}
 use Rattle.rom_rows.specs.Table.Block.{OfFetch}
 use Rattle.rom_rows.specs.Table.Place.{AtTimer, AtKey, AtSprite}
-use Rattle.rom_rows.proofs.Bytes.{quick, both_is, both_fits}
+use Rattle.rom_rows.proofs.Bytes.{quick, both_is, both_fits, screen_is, stack_top_is}
 use Rattle.rom_rows.proofs.Calm.{calm_in}
 use Rattle.rom_rows.proofs.Entry.{on_3, is_on_3}
 use Rattle.rom_rows.proofs.PlaceFacts.{place_facts}
@@ -46,14 +45,9 @@ ticks_screen : (n : ℕ) (s : Lang) → (ticks n s).screen ≡ s.screen
 ticks_screen zero s = refl
 ticks_screen (suc n) s = ticks_screen n s
 
-screen_is : (e : Edition) → screen_start e ≡ (page_of e + 1) * 256
-screen_is Usual = refl
-screen_is Tall = refl
-
 -- the stack lies below the screen
 pub below_screen : (e : Edition) (b : Machine) (s : Lang) → value b.regs.r.r2 + 2 * length s.stack ≡ stack_top e → value b.regs.r.r2 < screen_start e
-below_screen Usual b s h = omega (arith, h)
-below_screen Tall b s h = omega (arith, h)
+below_screen e b s h = omega (arith, h, screen_is e, stack_top_is e)
 
 -- RAM is the same from the screen on
 abbrev SameAbove : Edition → Machine → Machine → Type 0
@@ -145,18 +139,18 @@ module _ (e : Edition) where
         ∙ ap (λ (z : Machine). z.ram) (sym (quick_by_is (code (quick e)) u (on_3 a b) inside)) ∙ same (flags_in u (on_3 a b))
 
     place_keeps : (l : Place) (h : Since) → b.regs.idle ≡ false → At (quick e) l b h → (moved (code (quick e)) u b).ram ≡ b.ram
-    place_keeps (AtTimer RandomCount) h i o = keeps at_random_count (is_on_3 at_random_count b o.0.0.entered.p o.0.0.entered.r3) refl (λ f. refl)
-    place_keeps (AtTimer GetDelay) h i o = keeps at_get_delay (is_on_3 at_get_delay b o.0.0.entered.p o.0.0.entered.r3) refl (λ f. refl)
-    place_keeps (AtTimer SetDelayPut) h i o = keeps at_set_delay_put (is_on_3 at_set_delay_put b o.0.0.entered.p o.0.0.entered.r3) refl (λ f. refl)
-    place_keeps (AtTimer SetSoundPut) h i o = keeps at_set_sound_put (is_on_3 at_set_sound_put b o.0.0.entered.p o.0.0.entered.r3) refl (λ f. refl)
+    place_keeps (AtTimer RandomCount) h i o = keeps AT_RANDOM_COUNT (is_on_3 AT_RANDOM_COUNT b o.0.0.entered.p o.0.0.entered.r3) refl (λ f. refl)
+    place_keeps (AtTimer GetDelay) h i o = keeps AT_GET_DELAY (is_on_3 AT_GET_DELAY b o.0.0.entered.p o.0.0.entered.r3) refl (λ f. refl)
+    place_keeps (AtTimer SetDelayPut) h i o = keeps AT_SET_DELAY_PUT (is_on_3 AT_SET_DELAY_PUT b o.0.0.entered.p o.0.0.entered.r3) refl (λ f. refl)
+    place_keeps (AtTimer SetSoundPut) h i o = keeps AT_SET_SOUND_PUT (is_on_3 AT_SET_SOUND_PUT b o.0.0.entered.p o.0.0.entered.r3) refl (λ f. refl)
     place_keeps (AtKey (SkipTest true)) h i o = keeps (skip_test_label true) (is_on_3 (skip_test_label true) b o.0.0.p o.0.0.r3) refl (λ f. refl)
     place_keeps (AtKey (SkipTest false)) h i o = keeps (skip_test_label false) (is_on_3 (skip_test_label false) b o.0.0.p o.0.0.r3) refl (λ f. refl)
     place_keeps (AtKey (KeyTest turn)) h i o =
-        keeps at_key_test (is_on_3 at_key_test b o.0.0.waiting.enters.entered.p o.0.0.waiting.enters.entered.r3) refl (λ f. refl)
-    place_keeps (AtKey (KeyHeld turn looks)) h i o = keeps at_key_held (is_on_3 at_key_held b o.0.0.enters.entered.p o.0.0.enters.entered.r3) refl (λ f. refl)
-    place_keeps (AtSprite ClearWait) h i o = keeps at_clear_wait (is_on_3 at_clear_wait b o.0.p o.0.r3) refl (λ f. refl)
+        keeps AT_KEY_TEST (is_on_3 AT_KEY_TEST b o.0.0.waiting.enters.entered.p o.0.0.waiting.enters.entered.r3) refl (λ f. refl)
+    place_keeps (AtKey (KeyHeld turn looks)) h i o = keeps AT_KEY_HELD (is_on_3 AT_KEY_HELD b o.0.0.enters.entered.p o.0.0.enters.entered.r3) refl (λ f. refl)
+    place_keeps (AtSprite ClearWait) h i o = keeps AT_CLEAR_WAIT (is_on_3 AT_CLEAR_WAIT b o.0.p o.0.r3) refl (λ f. refl)
     place_keeps (AtSprite ClearIdle) h i o = absurd (sleeps (sym o.0.1 ∙ i))
-    place_keeps (AtSprite DrawWait) h i o = keeps at_draw_wait (is_on_3 at_draw_wait b o.0.p o.0.r3) refl (λ f. refl)
+    place_keeps (AtSprite DrawWait) h i o = keeps AT_DRAW_WAIT (is_on_3 AT_DRAW_WAIT b o.0.p o.0.r3) refl (λ f. refl)
     place_keeps (AtSprite DrawIdle) h i o = absurd (sleeps (sym o.0.1 ∙ i))
 
   -- at a place it writes nothing at all
@@ -174,18 +168,18 @@ module _ (e : Edition) where
 
     place_unwritten : (l : Place) (h : Since) → b.regs.idle ≡ false → At (quick e) l b h → (j : Inputs) (w : ℕ × ℕ)
         → (executed (opcode_of (quick e).interpreter.rom b) (stepped b.regs b.regs.p) j).write ≡ Some w → ⊥
-    place_unwritten (AtTimer RandomCount) h i o = unwritten at_random_count (is_on_3 at_random_count b o.0.0.entered.p o.0.0.entered.r3) refl (λ s j. refl)
-    place_unwritten (AtTimer GetDelay) h i o = unwritten at_get_delay (is_on_3 at_get_delay b o.0.0.entered.p o.0.0.entered.r3) refl (λ s j. refl)
-    place_unwritten (AtTimer SetDelayPut) h i o = unwritten at_set_delay_put (is_on_3 at_set_delay_put b o.0.0.entered.p o.0.0.entered.r3) refl (λ s j. refl)
-    place_unwritten (AtTimer SetSoundPut) h i o = unwritten at_set_sound_put (is_on_3 at_set_sound_put b o.0.0.entered.p o.0.0.entered.r3) refl (λ s j. refl)
+    place_unwritten (AtTimer RandomCount) h i o = unwritten AT_RANDOM_COUNT (is_on_3 AT_RANDOM_COUNT b o.0.0.entered.p o.0.0.entered.r3) refl (λ s j. refl)
+    place_unwritten (AtTimer GetDelay) h i o = unwritten AT_GET_DELAY (is_on_3 AT_GET_DELAY b o.0.0.entered.p o.0.0.entered.r3) refl (λ s j. refl)
+    place_unwritten (AtTimer SetDelayPut) h i o = unwritten AT_SET_DELAY_PUT (is_on_3 AT_SET_DELAY_PUT b o.0.0.entered.p o.0.0.entered.r3) refl (λ s j. refl)
+    place_unwritten (AtTimer SetSoundPut) h i o = unwritten AT_SET_SOUND_PUT (is_on_3 AT_SET_SOUND_PUT b o.0.0.entered.p o.0.0.entered.r3) refl (λ s j. refl)
     place_unwritten (AtKey (SkipTest true)) h i o = unwritten (skip_test_label true) (is_on_3 (skip_test_label true) b o.0.0.p o.0.0.r3) refl (λ s j. refl)
     place_unwritten (AtKey (SkipTest false)) h i o = unwritten (skip_test_label false) (is_on_3 (skip_test_label false) b o.0.0.p o.0.0.r3) refl (λ s j. refl)
     place_unwritten (AtKey (KeyTest turn)) h i o =
-        unwritten at_key_test (is_on_3 at_key_test b o.0.0.waiting.enters.entered.p o.0.0.waiting.enters.entered.r3) refl (λ s j. refl)
-    place_unwritten (AtKey (KeyHeld turn looks)) h i o = unwritten at_key_held (is_on_3 at_key_held b o.0.0.enters.entered.p o.0.0.enters.entered.r3) refl (λ s j. refl)
-    place_unwritten (AtSprite ClearWait) h i o = unwritten at_clear_wait (is_on_3 at_clear_wait b o.0.p o.0.r3) refl (λ s j. refl)
+        unwritten AT_KEY_TEST (is_on_3 AT_KEY_TEST b o.0.0.waiting.enters.entered.p o.0.0.waiting.enters.entered.r3) refl (λ s j. refl)
+    place_unwritten (AtKey (KeyHeld turn looks)) h i o = unwritten AT_KEY_HELD (is_on_3 AT_KEY_HELD b o.0.0.enters.entered.p o.0.0.enters.entered.r3) refl (λ s j. refl)
+    place_unwritten (AtSprite ClearWait) h i o = unwritten AT_CLEAR_WAIT (is_on_3 AT_CLEAR_WAIT b o.0.p o.0.r3) refl (λ s j. refl)
     place_unwritten (AtSprite ClearIdle) h i o = absurd (sleeps (sym o.0.1 ∙ i))
-    place_unwritten (AtSprite DrawWait) h i o = unwritten at_draw_wait (is_on_3 at_draw_wait b o.0.p o.0.r3) refl (λ s j. refl)
+    place_unwritten (AtSprite DrawWait) h i o = unwritten AT_DRAW_WAIT (is_on_3 AT_DRAW_WAIT b o.0.p o.0.r3) refl (λ s j. refl)
     place_unwritten (AtSprite DrawIdle) h i o = absurd (sleeps (sym o.0.1 ∙ i))
 
   quick_writes : (b : Machine) (h : Since) → b.regs.idle ≡ false → Row (quick e) (calm_pieces (quick e)) b h → (j : Inputs) (w : ℕ × ℕ)

@@ -45,7 +45,7 @@ use Rattle.rom_run.proofs.Image.{run_tick}
 use Rattle.rom_run.proofs.Moves.{board_moves, counts_main, dispatch_there, interrupted}
 use Rattle.rom_run.proofs.Proved.{proved}
 use Rattle.rom_run.proofs.Run.{starts_running}
-use Rattle.rom_run.proofs.Served.{served_awake, served_disabled, served_within}
+use Rattle.rom_run.proofs.WholeTick.{served_awake, served_disabled, served_within}
 use Rattle.rom_run.proofs.States.{there_taken}
 use Rattle.rom_run.proofs.Ticks.{few_later}
 use Rattle.rom_run.proofs.Waits.{sleeps}

@@ -1,10 +1,8 @@
 -- The display: no interrupt comes while the screen is changed, and how long 00E0 and DXYN prepare their work.
-use Rattle.std.proofs.Common.{◌≡◌, ℕ, ◌+◌, ◌<◌, ◌≤◌, ◌⊎◌, inl, inr, sym, ◌∙◌, arith, true, List}
+use Rattle.std.proofs.Common.{◌≡◌, ℕ, ◌+◌, ◌≤◌, ◌⊎◌, inl, inr, sym, ◌∙◌, arith, true, List}
 use Rattle.machine.specs.Board.{Machine}
 use Rattle.machine.specs.Keys.{Event}
 use Rattle.chip8_lang.specs.declared.view.Edition.{Edition}
-use Rattle.chip8_lang.specs.declared.view.Edition.TheVariants.{Usual, Tall}
-use Rattle.chip8_lang.specs.Editions.{variables, screen_start}
 use Rattle.rom_law.specs.Rows.{Since, Row}
 use Rattle.rom_rows.specs.Rom.{vip}
 use Rattle.rom_rows.specs.Table.{calm_pieces}
@@ -20,13 +18,10 @@ use Rattle.rom_run.specs.Running.Outside.{AtRow, AtEvent}
 use Rattle.rom_run.specs.Running.Running.{InMain, InRoutine}
 use Rattle.rom_run.proofs.Calm.{calm_shows}
 use Rattle.rom_run.proofs.Room.{row_room}
-use Rattle.rom_run.proofs.Served.{main_there, served_disabled}
+use Rattle.rom_run.proofs.WholeTick.{main_there, served_disabled}
 use Rattle.rom_run.proofs.Waits.{sleeps}
 use Rattle.rom_run.proofs.Woken.{row_waits, woken_apart, woken_few}
-
-screen_above : (e : Edition) → variables e < screen_start e
-screen_above Usual = omega arith
-screen_above Tall = omega arith
+use Rattle.rom_law.proofs.Places.{variables_below}
 
 module _ (e : Edition) (script : List Event) where
   -- ---- the screen, at an interrupt and elsewhere
@@ -36,7 +31,7 @@ module _ (e : Edition) (script : List Event) where
   outside_where b h (AtRow t row n time) = go time
     where
       calm : Row (vip e) (calm_pieces (vip e)) b h → Showing e b h
-      calm r = calm_shows e b h t.fits (omega (arith, (row_room e b h row).high, screen_above e)) r
+      calm r = calm_shows e b h t.fits (omega (arith, (row_room e b h row).high, variables_below e)) r
 
       go : Timed e b h → Showing e b h ⊎ Woken e b h
       go (Before s r) = inl (calm r)

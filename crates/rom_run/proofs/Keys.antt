@@ -36,7 +36,7 @@ use Rattle.rom_run.proofs.Endless.{KeyRow, key_row, never_waited}
 use Rattle.rom_run.proofs.Endless.KeyRow.{Approaches, Seeks, Holds, Leaves}
 use Rattle.rom_run.proofs.Moves.{counts_main, interrupted}
 use Rattle.rom_run.proofs.Proved.{proved}
-use Rattle.rom_run.proofs.Served.{served_within, served_disabled}
+use Rattle.rom_run.proofs.WholeTick.{served_within, served_disabled}
 
 -- a set of keys can't have a key down and up
 clash : (o : Option Keys) (a c : Keys) (k : ℕ) → o ≡ Some a → o ≡ Some c → a k ≡ true → c k ≡ false → ⊥
@@ -75,17 +75,17 @@ module _ (e : Edition) (script : List Event) where
 
   -- In cycle t: each main move took two cycles; without a bound each set of keys is that of a cycle of the run, since main code didn't wait for the
   -- display; and where a key was pressed for long enough, time is left.
-  pub record Known (t : ℕ) (h : Since) : Type 0 where
+  pub record KeysKnown (t : ℕ) (h : Since) : Type 0 where
     counted : Counted h
     sampled : bound_of e h.state ≡ None → (j : ℕ) → j < length h.keys → Sample h.keys h.from t j
     soon : (u w : ℕ) → Pressing h.from h.state u w → Soon t w
 
   -- at a dispatch point
-  pub begins : (t : ℕ) (s : Lang) → Known t (dispatched t s)
+  pub begins : (t : ℕ) (s : Lang) → KeysKnown t (dispatched t s)
   begins t s = record { counted = omega arith; sampled = λ k j l. absurd (omega (arith, l)); soon = λ u w q. soon_first t u w q.since q.pressed.behind }
 
   -- the keys stay
-  passes : (t n : ℕ) (h : Since) → t ≤ n → Known t h → ((u w : ℕ) → Pressing h.from h.state u w → Soon n w) → Known n h
+  passes : (t n : ℕ) (h : Since) → t ≤ n → KeysKnown t h → ((u w : ℕ) → Pressing h.from h.state u w → Soon n w) → KeysKnown n h
   passes t n h l k soon =
       record {
         counted = k.counted;
@@ -94,12 +94,12 @@ module _ (e : Edition) (script : List Event) where
         soon = soon;
       }
 
-  ticked : (t : ℕ) (h : Since) → Known t h → Known t (after_tick h)
+  ticked : (t : ℕ) (h : Since) → KeysKnown t h → KeysKnown t (after_tick h)
   ticked t h k = record { counted = k.counted; sampled = k.sampled; soon = k.soon }
 
   -- ---- where main code runs
 
-  module _ (b : Machine) (h : Since) (t : Interval e script b h) (row : Row x (pieces x) b h) (time : Timed e b h) (known : Known b.cycle h) where
+  module _ (b : Machine) (h : Since) (t : Interval e script b h) (row : Row x (pieces x) b h) (time : Timed e b h) (known : KeysKnown b.cycle h) where
     module _ (free : bound_of e h.state ≡ None) where
       spends : Spends b h 0
       spends = never_waited e b h free script t row time
@@ -202,36 +202,36 @@ module _ (e : Edition) (script : List Event) where
             let s = known.sampled free j (omega (arith, l, d, length_more h.keys (set ∷ []))) in
             record { cycle = s.cycle; made = s.made; before = omega (arith, s.before); there = get_append h.keys (set ∷ []) j _ s.there }
 
-    main_known : Known (b.cycle + 2) (main_more (image e) held b h 2)
+    main_known : KeysKnown (b.cycle + 2) (main_more (image e) held b h 2)
     main_known = record { counted = omega (arith, known.counted, length_more h.keys (set ∷ [])); sampled = new_sample; soon = λ u w q. (soon_by u w q).0 }
 
-    next_known : Known (b.cycle + 1) h
+    next_known : KeysKnown (b.cycle + 1) h
     next_known = passes b.cycle (b.cycle + 1) h (omega arith) known (λ u w q. (soon_by u w q).1)
 
-    row_known : b.on ≡ true → b.regs.ie ≡ true → Makes (image e) held b (next b) → Known (next b).cycle (carried (image e) held b h)
+    row_known : b.on ≡ true → b.regs.ie ≡ true → Makes (image e) held b (next b) → KeysKnown (next b).cycle (carried (image e) held b h)
     row_known on ie (Runs d i m) =
-        subst₂ Known (sym (ap (λ (z : Machine). z.cycle) m ∙ ap (λ z. b.cycle + z) (row_cycles x (pieces x) (proved e) b h t.fits i row)))
+        subst₂ KeysKnown (sym (ap (λ (z : Machine). z.cycle) m ∙ ap (λ z. b.cycle + z) (row_cycles x (pieces x) (proved e) b h t.fits i row)))
         (sym (counts_main e script b h t row d i)) main_known
     row_known on ie (Waits d i m) =
-        subst₂ Known (sym (ap (λ (z : Machine). z.cycle) m)) (sym (carried_idle (image e) held b h (case_waits b on ie t.outside d i))) next_known
+        subst₂ KeysKnown (sym (ap (λ (z : Machine). z.cycle) m)) (sym (carried_idle (image e) held b h (case_waits b on ie t.outside d i))) next_known
     row_known on ie (Accepts i m) =
-        subst₂ Known (sym (ap (λ (z : Machine). z.cycle) m)) (sym (carried_interrupt (image e) held b h (case_accepts b on ie (omega (arith, i)))))
+        subst₂ KeysKnown (sym (ap (λ (z : Machine). z.cycle) m)) (sym (carried_interrupt (image e) held b h (case_accepts b on ie (omega (arith, i)))))
         (ticked (b.cycle + 1) h next_known)
 
   -- ---- every move
 
-  pub known_on : (b : Machine) (h : Since) → Running e script b h → Known b.cycle h → Known (next b).cycle (carried (image e) held b h)
+  pub known_on : (b : Machine) (h : Since) → Running e script b h → KeysKnown b.cycle h → KeysKnown (next b).cycle (carried (image e) held b h)
   known_on b h (InMain (AtRow t row n time)) k =
       let ready = row_runs x (pieces x) (proved e) b h t.fits row in
       row_known b h t row time k ready.on ready.enabled (every_move (image e) held b ready.on ready.enabled t.outside)
   known_on b h (InMain (AtEvent t p d late y)) k =
       let o = interrupted e script b h (b.cycle / 3668) (AtEvent t p d late y) (omega (arith, p)) in
-      subst₂ Known (sym (ap (λ (z : Machine). z.cycle) (accepted (image e) held b o.on o.enabled p)))
+      subst₂ KeysKnown (sym (ap (λ (z : Machine). z.cycle) (accepted (image e) held b o.on o.enabled p)))
       (sym (carried_interrupt (image e) held b h (case_accepts b o.on o.enabled p)))
       (ticked (b.cycle + 1) h (passes b.cycle (b.cycle + 1) h (omega arith) k (λ u w q. soon_interrupt b.cycle w (k.soon u w q) p)))
   known_on b h (InRoutine s) k =
       let i = served_within e script b h s in
-      subst (Known (next b).cycle) (sym (carried_disabled (image e) held b h (served_disabled e script b h s)))
+      subst (KeysKnown (next b).cycle) (sym (carried_disabled (image e) held b h (served_disabled e script b h s)))
       (passes b.cycle (next b).cycle h (omega (arith, later-move (image e) held b)) k
       (λ u w q. soon_routine s.m b.cycle (next b).cycle w (k.soon u w q) i.0 (omega (arith, later-move (image e) held b, i.1))
       (later-move (image e) held b) i.1))
@@ -239,7 +239,7 @@ module _ (e : Edition) (script : List Event) where
   -- ---- in time
 
   -- each move ends within the bound, and in time for a key that is pressed for long enough
-  pub in_time : (b : Machine) (h : Since) → Running e script b h → Known b.cycle h → InTime x script h.from h.state (next b).cycle
+  pub in_time : (b : Machine) (h : Since) → Running e script b h → KeysKnown b.cycle h → InTime x script h.from h.state (next b).cycle
   in_time b h r k =
       record {
         bound = λ bound is. timely e script b h bound r is;

@@ -14,13 +14,13 @@ pub mod Bound
 pub mod Parts
 pub mod Apart
 pub mod Dispatch
-pub mod Served
+pub mod WholeTick
 pub mod Display
 pub mod Pictures
 pub mod Cycles
 pub mod Endless
 pub mod Keys
-pub mod Due
+pub mod NoneDue
 pub mod Run
 pub mod States
 pub mod Starts

@@ -30,7 +30,7 @@ use Rattle.rom_law.specs.Later.{After}
 use Rattle.rom_law.proofs.Ranges.{tick_fits}
 use Rattle.rom_law.proofs.Ticks.{after_none}
 use Rattle.rom_law.proofs.Ticks.{after_tick as one_tick}
-use Rattle.rom_law.specs.Program.{Program, Keeps, code, Dispatches, Halts}
+use Rattle.rom_law.specs.Program.{Program, KeepsState, code, Dispatches, Halts}
 use Rattle.rom_law.specs.Rows.{Since, Embeds, Row, Outcome, Stepped, Stopped, now, dispatched, after_main, after_tick}
 use Rattle.rom_law.specs.Rows.Outcome.{Still as Calm, Dispatched, Halted as Failed}
 use Rattle.rom_law.specs.Runs.{state_at, carried, IsNext, IsEnd, Moves}
@@ -85,7 +85,7 @@ module _ (e : Edition) (script : List Event) where
   -- ---- events
 
   -- at a dispatch or a stop the board is interrupted, or it is an event of the run
-  module _ (c : Machine) (s : Lang) (k : Keeps x c s) where
+  module _ (c : Machine) (s : Lang) (k : KeepsState x c s) where
     pub runs_there : IsOutside c.cycle → (place c.cycle ≡ interrupt_place → ⊥) → case_of c ≡ Instruction
     runs_there out d = case_runs c k.on k.lies.enabled out d k.lies.awake
 

@@ -12,7 +12,7 @@ use Rattle.chip8_lang.specs.Step.KeyInput.{Nothing, Held, Chosen}
 use Rattle.chip8_lang.specs.Ticks.{tick, ticks}
 use Rattle.chip8_lang.specs.Timed.{interrupts, later, cycles, ticks_first, first_from, pressed, let_go, ran, waited, after_instr, by_stop, next_point}
 use Rattle.chip8_lang.specs.Timed.Next.{Dispatch}
-use Rattle.rom_law.specs.Moments.{Moment, Among, Meets, Sees, Chooses, Tells, is_waiting, takes_by}
+use Rattle.rom_law.specs.Moments.{Moment, Among, TicksBefore, Sees, Chooses, MovesTell, is_waiting, takes_by}
 use Rattle.rom_law.specs.Rows.{Since}
 use Rattle.rom_law.proofs.Language.{ticks_add, ticks_instr}
 use Rattle.rom_run.specs.Running.{Dated}
@@ -122,7 +122,7 @@ module _ (e : Edition) (script : List Event) (limit : ℕ) (h : Since) (z : Lang
   module _ (before after : ℕ) (all : before + after ≡ h.ticks) (at : c ≡ later a h.spent) (count : interrupts a h.spent ≡ h.ticks)
       (past : (m : Moment) → Among m h.moments → Dated script a m) (even : a % 2 ≡ 0) (here : c ≤ limit) where
     -- the ticks before a main move, and the key that it saw
-    met : (k : ℕ) → k % 2 ≡ 0 → Meets h.moments k before → interrupts a (k + 1) ≡ before
+    met : (k : ℕ) → k % 2 ≡ 0 → TicksBefore h.moments k before → interrupts a (k + 1) ≡ before
     met k o m = odd_same a k even o ∙ ap (interrupts a) (sym m.at) ∙ sym (past m.moment m.among).ticks ∙ m.after
 
     saw : (k key : ℕ) (down : Bool) → Sees h.moments k key down → held_at script (later a k + 1) key ≡ down
@@ -162,7 +162,7 @@ module _ (e : Edition) (script : List Event) (limit : ℕ) (h : Since) (z : Lang
         late : 126 + 14 * m.turn + 2 * m.looks ≤ limit
         late = omega (arith, m.spends, at, here)
 
-    go : (i : Instr) → instr_at s ≡ i → (key : KeyInput) → Allows i s h.keys key → Tells i s h.moments h.spent before key
+    go : (i : Instr) → instr_at s ≡ i → (key : KeyInput) → Allows i s h.keys key → MovesTell i s h.moments h.spent before key
         → ((n : ℕ) → takes_by e i s key ≡ Some n → h.spent ≡ n) → z ≡ ticks after (step e key (ticks before s)) → is_waiting i ≡ false → after_instr e script limit i a s ≡ Dispatch c z
     go Clear is key al told time made w = spoilt w
     go (Draw x y n) is key al told time made w = spoilt w
@@ -188,7 +188,7 @@ module _ (e : Edition) (script : List Event) (limit : ℕ) (h : Since) (z : Lang
     go i is (Chosen k) al told time made w = absurd al
 
   pub next_prompt : (runs : stop_of e s ≡ None) (b : Between e s h.ticks h.keys z)
-      → ((n : ℕ) → takes_by e (instr_at s) s b.key ≡ Some n → h.spent ≡ n) → Tells (instr_at s) s h.moments h.spent b.before b.key
+      → ((n : ℕ) → takes_by e (instr_at s) s b.key ≡ Some n → h.spent ≡ n) → MovesTell (instr_at s) s h.moments h.spent b.before b.key
       → ((m : Moment) → Among m h.moments → Dated script a m) → a % 2 ≡ 0 → c ≡ later a h.spent → interrupts a h.spent ≡ h.ticks
       → is_waiting (instr_at s) ≡ false → c ≤ limit → next_point e script limit a s ≡ Dispatch c z
   next_prompt runs b time told past even at count w here =

@@ -11,7 +11,6 @@ use Rattle.machine.specs.Pictures.{interrupt_at, window_end, picture_of, place, 
 use Rattle.machine.specs.Ranges.{FitsMachine}
 use Rattle.machine.proofs.Runs.{later-move}
 use Rattle.chip8_lang.specs.declared.view.Edition.{Edition}
-use Rattle.chip8_lang.specs.declared.view.Edition.TheVariants.{Usual, Tall}
 use Rattle.chip8_lang.specs.Editions.{rows_of, lines_of}
 use Rattle.chip8_lang.specs.State.{Lang}
 use Rattle.rom_law.specs.Program.{Program}
@@ -33,8 +32,9 @@ use Rattle.rom_run.specs.Running.Running.{InMain, InRoutine}
 use Rattle.rom_run.proofs.Display.{outside_shows}
 use Rattle.rom_run.proofs.Moves.{interrupted}
 use Rattle.rom_run.proofs.Proved.{proved}
-use Rattle.rom_run.proofs.Served.{main_there, served_meets, served_within}
+use Rattle.rom_run.proofs.WholeTick.{main_there, served_meets, served_within}
 use Rattle.rom_run.proofs.Ticks.{few_later}
+use Rattle.rom_law.proofs.Places.{row_inside}
 
 module _ (e : Edition) (script : List Event) where
   abbrev x : Program
@@ -161,10 +161,6 @@ module _ (e : Edition) (script : List Event) where
         seen : Showing e (after o.i) o.before
         seen = outside_shows e script (after o.i) o.before o.outside (omega (arith, o.cycle))
 
-        rows : (e : Edition) (k : ℕ) → k < 128 → k / lines_of e < rows_of e
-        rows Usual k h = omega (arith, h)
-        rows Tall k h = omega (arith, h)
-
         high : (k : ℕ) (line : List ℕ) → slice_get (picture_of (image e) (run_to (image e) held first limit) m) k ≡ Some line → k / lines_of e < rows_of e
         high k line get =
-            rows e k (omega (arith, slice_get_within (picture_of (image e) (run_to (image e) held first limit) m) k line get, scanned.shows.lines))
+            row_inside e k (omega (arith, slice_get_within (picture_of (image e) (run_to (image e) held first limit) m) k line get, scanned.shows.lines))

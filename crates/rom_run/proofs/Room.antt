@@ -1,17 +1,15 @@
 -- In each row the stack has room for what an interrupt pushes.
-use Rattle.std.proofs.Common.{None, ◌≡◌, ℕ, ◌+◌, ◌-◌, ◌<◌, ◌≤◌, ◌⊎◌, inl, inr, refl, ◌∙◌, ap, subst, arith, List, true, slice_index}
-use Rattle.std.specs.Prelude.{nat_le}
-use Rattle.std.proofs.lemmas.Bool.{agree_below_at, leb-true, cases_lt}
+use Rattle.std.proofs.Common.{None, ◌≡◌, ℕ, ◌+◌, ◌-◌, ◌<◌, ◌≤◌, ◌⊎◌, inl, inr, refl, ◌∙◌, ap, subst, arith}
+use Rattle.std.proofs.lemmas.Bool.{cases_lt}
 use Rattle.machine.specs.Bank.{value, word_of}
 use Rattle.machine.specs.Board.{Machine}
-use Rattle.machine.specs.Keys.{Keys}
 use Rattle.chip8_lang.specs.declared.view.Edition.{Edition}
 use Rattle.chip8_lang.specs.Editions.{memory_end, variables}
 use Rattle.chip8_lang.specs.State.{Lang}
-use Rattle.chip8_image.specs.Labels.{at_inside}
+use Rattle.chip8_image.specs.declared.image.labels.TheConstants.{AT_INSIDE}
 use Rattle.rom_law.proofs.Moves.{quicks}
 use Rattle.rom_law.specs.Holding.{Places, places, Holding}
-use Rattle.rom_law.specs.Program.{Program, code}
+use Rattle.rom_law.specs.Program.{code}
 use Rattle.rom_law.specs.Rows.{Since, InBlock, Row, now}
 use Rattle.rom_law.specs.Rows.Row.{Inside as InRow, Alone}
 use Rattle.rom_law.proofs.Kept.{RunsBlock, good, block_r2}
@@ -19,7 +17,7 @@ use Rattle.rom_law.proofs.Places.{stack_below}
 use Rattle.rom_law.proofs.Room.{Near, near_quicks}
 use Rattle.rom_rows.specs.FetchBlocks.FetchBlock.{Inside}
 use Rattle.rom_rows.specs.Rom.{vip, program_of}
-use Rattle.rom_rows.specs.Table.{Block, Place, Head, At, moves, pieces}
+use Rattle.rom_rows.specs.Table.{Block, Place, At, moves, pieces}
 use Rattle.rom_rows.specs.Table.Block.{OfFetch}
 use Rattle.rom_rows.proofs.Bytes.{both_is, both_fits, quick, memory_end_is, stack_top_is, variables_is, page_fits, page_low}
 use Rattle.rom_rows.proofs.Entry.{on_4, is_on_4}
@@ -63,7 +61,7 @@ module _ (e : Edition) {l : Block} {b : Machine} {h : Since} (r : InBlock (quick
           (omega (arith, at, in_stack o, few, stack_top_is e, page_fits e)) r.k from r.inside
 
 -- the one long block leaves R2 for its first 16 instructions
-inside_r2 : (e : Edition) (b : Machine) → (quicks (code (quick e)) 16 (on_4 (word_of at_inside) b)).regs.r.r2 ≡ b.regs.r.r2
+inside_r2 : (e : Edition) (b : Machine) → (quicks (code (quick e)) 16 (on_4 (word_of AT_INSIDE) b)).regs.r.r2 ≡ b.regs.r.r2
 inside_r2 e b = refl
 
 inside_room : (e : Edition) (b : Machine) (h : Since) → InBlock (quick e) (pieces (quick e)) (OfFetch Inside) b h → Room e b

@@ -9,7 +9,6 @@ use Rattle.machine.specs.Pictures.{windows_ended, place, interrupt_place, window
 use Rattle.machine.proofs.Counts.{windows}
 use Rattle.machine.proofs.Runs.{later-move, run_to-past}
 use Rattle.chip8_lang.specs.declared.view.Edition.{Edition}
-use Rattle.chip8_lang.specs.declared.view.Edition.TheVariants.{Usual, Tall}
 use Rattle.chip8_lang.specs.State.{first, memory_size}
 use Rattle.chip8_lang.specs.Events.{Event as RunEvent, events_at, events_of, game_run, numbers_from, is_dispatch, is_stop, events_behind}
 use Rattle.chip8_lang.specs.Events.Event.{Dispatch}
@@ -27,12 +26,13 @@ use Rattle.rom_timer.specs.Frame.{IsMainPlace}
 use Rattle.rom_run.specs.Laws.{EveryRun, FromAnyStart, BootStarts, EveryPicture, EveryPictureBehind}
 use Rattle.rom_run.specs.Running.{Running}
 use Rattle.rom_run.specs.States.{MayStart, BootsTo}
-use Rattle.rom_run.proofs.Due.{UnderAny, still_there, arrived_there, known_there, none_due}
+use Rattle.rom_run.proofs.NoneDue.{UnderAny, still_there, arrived_there, known_there, none_due}
 use Rattle.rom_run.proofs.Image.{every_boot}
-use Rattle.rom_run.proofs.Keys.{Known, begins, known_on, in_time}
+use Rattle.rom_run.proofs.Keys.{KeysKnown, begins, known_on, in_time}
 use Rattle.rom_run.proofs.Moves.{board_moves, dispatch_there, renewed}
 use Rattle.rom_run.proofs.Pictures.{InRun, run_begins, run_on, shows, stops_at_window}
 use Rattle.rom_run.proofs.Proved.{proved}
+use Rattle.rom_law.proofs.Places.{memory_most, stack_room, stack_below, variables_below, screen_below}
 
 -- ---- where a run may begin
 
@@ -70,8 +70,7 @@ boots_to e game c f at st =
     }
 
 room : (e : Edition) → memory_size e ≤ 0xe00
-room Usual = omega arith
-room Tall = omega arith
+room e = omega (arith, memory_most e, stack_room e, stack_below e, variables_below e, screen_below e)
 
 module _ (e : Edition) (game : List ℕ) (small : length game ≤ memory_size e) (bytes : (i : ℕ) → slice_index game i < 256) (script : List Event) where
   pub boot : Boot e (image e) (held_at script) game
@@ -100,7 +99,7 @@ module _ (e : Edition) (script : List Event) (first : Machine) where
 
   pub record RunsFrom (b : Machine) (h : Since) : Type 0 where
     pub running : Running e script b h
-    pub known : Known e script b.cycle h
+    pub known : KeysKnown e script b.cycle h
     pub in_run : InRun e script first b h
     pub any : UnderAny e script b h
 

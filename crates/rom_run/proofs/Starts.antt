@@ -17,12 +17,12 @@ use Rattle.rom_run.specs.Running.{Running, Interval, FromBoot}
 use Rattle.rom_run.specs.Running.Running.{InMain, InRoutine}
 use Rattle.rom_run.specs.Running.Outside.{AtRow, AtEvent}
 use Rattle.rom_run.specs.Running.FromBoot.{Boots, Begins}
-use Rattle.rom_run.specs.States.{MayStart, Beginning, Unstopped, Known}
+use Rattle.rom_run.specs.States.{MayStart, Beginning, Unstopped, StateKnown}
 use Rattle.rom_run.specs.States.Beginning.{AtReset, AtStart}
-use Rattle.rom_run.specs.States.Known.{InBoot, Runs}
+use Rattle.rom_run.specs.States.StateKnown.{InBoot, Runs}
 use Rattle.rom_run.proofs.Parts.{boot_rows}
 use Rattle.rom_run.proofs.Moves.{board_moves}
-use Rattle.rom_run.proofs.Served.{served_disabled}
+use Rattle.rom_run.proofs.WholeTick.{served_disabled}
 use Rattle.rom_run.proofs.States.{every_state, there_taken}
 use Rattle.rom_run.proofs.Waits.{sleeps}
 
@@ -72,7 +72,7 @@ module _ (e : Edition) (script : List Event) (first : Machine) where
   abbrev Arrives : ℕ → Type 0
   Arrives n = is_dispatch (vip e).interpreter (at n) ≡ true
 
-  next_starts : (j : ℕ) → Unstopped (vip e) script first (suc (suc j)) → Arrives (suc j) → Known e script first j → MayStart e (at (suc j))
+  next_starts : (j : ℕ) → Unstopped (vip e) script first (suc (suc j)) → Arrives (suc j) → StateKnown e script first j → MayStart e (at (suc j))
   next_starts j u dispatch (InBoot game is few boots) = from_boot (boot_rows e script game (at j) boots)
     where
       from_boot : FromBoot e script game (at (suc j)) → MayStart e (at (suc j))

@@ -22,14 +22,14 @@ use Rattle.rom_run.specs.Laws.{EveryState, EveryInterrupt, NoneMissing}
 use Rattle.rom_run.specs.Running.{Running, Booting}
 use Rattle.rom_run.specs.Running.Outside.{AtRow, AtEvent}
 use Rattle.rom_run.specs.Running.Running.{InMain, InRoutine}
-use Rattle.rom_run.specs.States.{MayStart, Beginning, Known, Unstopped, IsInterruptCycle, InterruptedThere, Meets}
+use Rattle.rom_run.specs.States.{MayStart, Beginning, StateKnown, Unstopped, IsInterruptCycle, InterruptedThere, ReachesCycle}
 use Rattle.rom_run.specs.States.Beginning.{AtReset, AtStart}
-use Rattle.rom_run.specs.States.Known.{InBoot, Runs}
+use Rattle.rom_run.specs.States.StateKnown.{InBoot, Runs}
 use Rattle.rom_run.proofs.Moves.{board_moves, interrupted}
 use Rattle.rom_run.proofs.Pictures.{stops_before}
 use Rattle.rom_run.proofs.Proved.{proved}
 use Rattle.rom_run.proofs.Run.{boot, booted, starts_event, starts_running}
-use Rattle.rom_run.proofs.Served.{main_there, served_disabled}
+use Rattle.rom_run.proofs.WholeTick.{main_there, served_disabled}
 
 -- ---- each state is known
 
@@ -50,10 +50,10 @@ module _ (e : Edition) (script : List Event) (game : List ℕ) (small : length g
       starts : MayStart e (at (suc n))
       starts = subst (λ k. MayStart e (at k)) (sym last) (booted e game small bytes script).starts
 
-  pub reset_known : (i : ℕ) → Unstopped (vip e) script (start game) (suc i) → Known e script (start game) i
+  pub reset_known : (i : ℕ) → Unstopped (vip e) script (start game) (suc i) → StateKnown e script (start game) i
   reset_known i u = go (cases_lt i boot_moves)
     where
-      go : (i < boot_moves) ⊎ (boot_moves ≤ i) → Known e script (start game) i
+      go : (i < boot_moves) ⊎ (boot_moves ≤ i) → StateKnown e script (start game) i
       go (inl l) = InBoot game refl l (record { room = small; bytes = bytes; k = i; inside = l; is = refl })
       go (inr l) =
           Runs (subst RunsAt split (holds_behind (vip e) script (Running e script) (board_moves e script) (start game) boot_moves (first_runs 27 refl)
@@ -147,23 +147,23 @@ module _ (e : Edition) (script : List Event) (first : Machine) where
       subst (λ z. Booting e script game (state_after (vip e) script z i) → (state_after (vip e) script z (suc i)).cycle ≤ 56) (sym is)
       (boot_early e script game i l) b
 
-  known_apart : (i : ℕ) → Known e script first i → InterruptedThere (after i)
+  known_apart : (i : ℕ) → StateKnown e script first i → InterruptedThere (after i)
   known_apart i (InBoot game is l b) =
       early_apart (after i) (omega (arith, early game i is l b, later_cycle (image e) (held_at script) first i (suc i) (omega arith)))
   known_apart i (Runs r) = interrupted_there e script (after i) (record_after (vip e) script first i) r
 
   -- no move goes past one
-  not_past : (i m : ℕ) → Known e script first i → (after i).cycle < interrupt_at m → (after (suc i)).cycle ≤ interrupt_at m
+  not_past : (i m : ℕ) → StateKnown e script first i → (after i).cycle < interrupt_at m → (after (suc i)).cycle ≤ interrupt_at m
   not_past i m (InBoot game is l b) k = omega (arith, early game i is l b)
   not_past i m (Runs r) k = stops_before e script (after i) (record_after (vip e) script first i) m r k
 
   meets : Beginning e first → (i : ℕ) → Unstopped (vip e) script first i → (m : ℕ) → first.cycle ≤ interrupt_at m → interrupt_at m ≤ (after i).cycle
-      → Meets (vip e) script first i (interrupt_at m)
+      → ReachesCycle (vip e) script first i (interrupt_at m)
   meets begins zero u m from to = record { j = 0; up_to = omega arith; cycle = omega (arith, from, to) }
   meets begins (suc i) u m from to = go (cases_lt (after i).cycle (interrupt_at m)) (meets begins i (λ j k. u j (omega (arith, k))) m from)
     where
       go : ((after i).cycle < interrupt_at m) ⊎ (interrupt_at m ≤ (after i).cycle)
-          → (interrupt_at m ≤ (after i).cycle → Meets (vip e) script first i (interrupt_at m)) → Meets (vip e) script first (suc i) (interrupt_at m)
+          → (interrupt_at m ≤ (after i).cycle → ReachesCycle (vip e) script first i (interrupt_at m)) → ReachesCycle (vip e) script first (suc i) (interrupt_at m)
       go (inl past) before = record { j = suc i; up_to = omega arith; cycle = omega (arith, to, not_past i m (every_state e script first begins i u) past) }
       go (inr by) before = let o = before by in record { j = o.j; up_to = omega (arith, o.up_to); cycle = o.cycle }
 

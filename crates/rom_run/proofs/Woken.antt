@@ -31,7 +31,7 @@ use Rattle.rom_rows.specs.Table.Block.{OfSprite}
 use Rattle.rom_rows.specs.Table.Place.{AtTimer, AtKey, AtSprite}
 use Rattle.rom_rows.proofs.Later.{before_ticks}
 use Rattle.rom_rows.proofs.Steps.{stop_ticks}
-use Rattle.rom_rows.proofs.Most.{draw_most, few_rows}
+use Rattle.rom_rows.proofs.Most.{draw_most}
 use Rattle.rom_timer.specs.Routine.{routine_cycles}
 use Rattle.rom_run.specs.Running.{IsBehind, Interval}
 use Rattle.rom_run.specs.Time.{Spends, WaitsBy, Woken, Timed, wait_time, since_return, since_window, most_changing}
@@ -42,6 +42,7 @@ use Rattle.rom_run.proofs.Exact.{woken_is, later_soon, due_behind, waits_take}
 use Rattle.rom_run.proofs.Proved.{proved}
 use Rattle.rom_rows.proofs.Haste.{few}
 use Rattle.rom_run.proofs.Waits.{sleeps, timer_awake, key_awake}
+use Rattle.rom_law.proofs.Places.{few_rows}
 
 -- ---- where main code waits
 

@@ -5,7 +5,7 @@ use Rattle.chip8_image.specs.declared.map.Area.{Area}
 use Rattle.chip8_image.specs.declared.map.TheConstants.{AREAS}
 use Rattle.chip8_image.specs.declared.parts.Part.{Part}
 use Rattle.chip8_image.specs.declared.parts.Part.TheVariants.{Fetch, Arith, Memory, Sprite, Timer, Keys, Other}
-use Rattle.chip8_image.specs.Labels.{at_table, at_font}
+use Rattle.chip8_image.specs.declared.image.labels.TheConstants.{AT_TABLE, AT_FONT}
 use Rattle.chip8_image.specs.Parts.{is_part, addresses_from, addresses_of}
 use Rattle.chip8_lang.specs.declared.view.Edition.{Edition}
 use Rattle.chip8_lang.specs.State.{font}
@@ -25,7 +25,7 @@ code_of e Memory = memory_code e
 code_of e Sprite = sprite_code e
 code_of e Timer = timer_code e
 code_of e Keys = keys_code e
-code_of e Other = stretch at_font font ∷ []
+code_of e Other = stretch AT_FONT font ∷ []
 
 -- the addresses of stretches
 abbrev pub addresses_in : List Stretch → List ℕ
@@ -34,7 +34,7 @@ addresses_in (s ∷ stretches) = addresses_from s.first (length s.bytes) ++ addr
 
 -- the part with whose bytes an area's stand
 abbrev pub stands_with : Area → Part
-stands_with a = if nat_eq a.first at_table then Fetch else a.part
+stands_with a = if nat_eq a.first AT_TABLE then Fetch else a.part
 
 abbrev pub areas_with : Part → List Area
 areas_with p = filter (λ a. is_part p (stands_with a)) AREAS

@@ -26,7 +26,7 @@ use Rattle.rom_fetch.specs.Laws.{boot_moves}
 use Rattle.rom_run.specs.Display.{Display, WritesScreen, SameInterval, AtDisplay, Changes}
 use Rattle.rom_run.specs.Running.{Running, Booting, FromBoot, Showing}
 use Rattle.rom_run.specs.Time.{since_return, most_changing}
-use Rattle.rom_run.specs.States.{MayStart, Beginning, BootsTo, Unstopped, Known, InterruptedThere, Meets}
+use Rattle.rom_run.specs.States.{MayStart, Beginning, BootsTo, Unstopped, StateKnown, InterruptedThere, ReachesCycle}
 
 -- whenever timer ticks come, main code does what the language says
 abbrev pub AnySchedule : Type 0
@@ -81,7 +81,7 @@ EveryPictureBehind =
 
 -- each state up to the stop is in boot, or `Running` holds of it with the record of the moves since the last dispatch point
 abbrev pub EveryState : Type 0
-EveryState = (e : Edition) (script : List Event) (first : Machine) → Beginning e first → (i : ℕ) → Unstopped (vip e) script first (suc i) → Known e script first i
+EveryState = (e : Edition) (script : List Event) (first : Machine) → Beginning e first → (i : ℕ) → Unstopped (vip e) script first (suc i) → StateKnown e script first i
 
 -- the next move of each of these is an interrupt exactly in the cycle of a frame's interrupt
 abbrev pub EveryInterrupt : Type 0
@@ -99,7 +99,7 @@ NoneMissing =
     → (m : ℕ)
     → first.cycle ≤ interrupt_at m
     → interrupt_at m ≤ (state_after (vip e) script first i).cycle
-    → Meets (vip e) script first i (interrupt_at m)
+    → ReachesCycle (vip e) script first i (interrupt_at m)
 
 -- ---- a move
 

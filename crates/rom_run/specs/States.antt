@@ -42,9 +42,9 @@ abbrev pub Unstopped : Program → List Event → Machine → ℕ → Type 0
 Unstopped x script first n = (j : ℕ) → j < n → is_stop x.interpreter (state_after x script first j) ≡ false
 
 -- The state after i moves is in boot, or `Running` holds of it with the record of the moves since the last dispatch point.
-pub data Known (e : Edition) (script : List Event) (first : Machine) (i : ℕ) : Type 0 where
-  InBoot : (game : List ℕ) → first ≡ start game → i < boot_moves → Booting e script game (state_after (vip e) script first i) → Known e script first i
-  Runs : Running e script (state_after (vip e) script first i) (record_after (vip e) script first i) → Known e script first i
+pub data StateKnown (e : Edition) (script : List Event) (first : Machine) (i : ℕ) : Type 0 where
+  InBoot : (game : List ℕ) → first ≡ start game → i < boot_moves → Booting e script game (state_after (vip e) script first i) → StateKnown e script first i
+  Runs : Running e script (state_after (vip e) script first i) (record_after (vip e) script first i) → StateKnown e script first i
 
 -- ---- the interrupts
 
@@ -57,7 +57,7 @@ abbrev pub InterruptedThere : Machine → Type 0
 InterruptedThere b = (case_of b ≡ Interrupt) ↔ IsInterruptCycle b.cycle
 
 -- one of the states up to the one after i moves has this cycle
-pub record Meets (x : Program) (script : List Event) (first : Machine) (i t : ℕ) : Type 0 where
+pub record ReachesCycle (x : Program) (script : List Event) (first : Machine) (i t : ℕ) : Type 0 where
   pub j : ℕ
   pub up_to : j ≤ i
   pub cycle : (state_after x script first j).cycle ≡ t

@@ -4,7 +4,7 @@ use Rattle.machine.specs.Bank.{value}
 use Rattle.machine.specs.Instruction.{at}
 use Rattle.machine.specs.Board.{Machine}
 use Rattle.chip8_lang.specs.declared.view.Edition.{Edition}
-use Rattle.chip8_image.specs.Labels.{at_cleared, at_row, at_row_byte, at_shift7, at_row_right, at_line}
+use Rattle.chip8_image.specs.declared.image.labels.TheConstants.{AT_CLEARED, AT_ROW, AT_ROW_BYTE, AT_SHIFT7, AT_ROW_RIGHT, AT_LINE}
 use Rattle.chip8_image.specs.declared.parts.Part.TheVariants.{Sprite}
 use Rattle.rom_law.specs.Rows.{Since}
 use Rattle.rom_rows.specs.Checks.Answer.{InGame, InFont, Nowhere}
@@ -32,7 +32,7 @@ sprite_follows e (Wipe k) b h o = record { same = _; is = is_clearing o.0.0; fol
 sprite_follows e (Wipe3 k) b h o = record { same = _; is = is_clearing o.0.0; follows = refl }
 sprite_follows e (Wipe6 k) b h o = record { same = _; is = is_clearing o.0.0; follows = refl }
 sprite_follows e (Wiped k) b h o = record { same = _; is = is_clearing o.0.0; follows = refl }
-sprite_follows e Cleared b h o = record { same = on_3 at_cleared b; is = is_on_3 at_cleared b o.0.0.p o.0.0.r3; follows = refl }
+sprite_follows e Cleared b h o = record { same = on_3 AT_CLEARED b; is = is_on_3 AT_CLEARED b o.0.0.p o.0.0.r3; follows = refl }
 sprite_follows e Draw b h o = record { same = _; is = is_entered o.0.entered; follows = refl }
 sprite_follows e DrawCheck b h o = record { same = _; is = is_entered o.0.0.entered; follows = refl }
 sprite_follows e (DrawFound InGame) b h o = record { same = _; is = is_resumed o.0; follows = refl }
@@ -43,14 +43,14 @@ sprite_follows e Edge b h o = record { same = _; is = is_summing o.0.0 o.0.1; fo
 sprite_follows e Fits b h o = record { same = _; is = is_summing o.0.0 o.0.1; follows = refl }
 sprite_follows e Angle b h o = record { same = _; is = is_summing o.0.0 o.0.1; follows = refl }
 sprite_follows e Begin b h o = record { same = _; is = is_aiming o.0.0; follows = refl }
-sprite_follows e (Row r) b h o = record { same = on_3 at_row b; is = is_on_3 at_row b o.0.0.p o.0.0.r3; follows = refl }
-sprite_follows e (RowByte r) b h o = record { same = on_3 at_row_byte b; is = is_on_3 at_row_byte b o.0.0.p o.0.0.r3; follows = refl }
-sprite_follows e (Shift r j) b h o = shift j (is_on_3 (at_shift7 + 6 * (7 - j)) b o.0.0.p o.0.0.r3) o.0.3 few
+sprite_follows e (Row r) b h o = record { same = on_3 AT_ROW b; is = is_on_3 AT_ROW b o.0.0.p o.0.0.r3; follows = refl }
+sprite_follows e (RowByte r) b h o = record { same = on_3 AT_ROW_BYTE b; is = is_on_3 AT_ROW_BYTE b o.0.0.p o.0.0.r3; follows = refl }
+sprite_follows e (Shift r j) b h o = shift j (is_on_3 (AT_SHIFT7 + 6 * (7 - j)) b o.0.0.p o.0.0.r3) o.0.3 few
   where
     few : j ≤ 7
     few = omega (arith, o.0.4)
 
-    shift : (j : ℕ) → b ≡ on_3 (at_shift7 + 6 * (7 - j)) b → 0 < j → j ≤ 7 → Follows (quick e) (OfSprite (Shift r j)) b
+    shift : (j : ℕ) → b ≡ on_3 (AT_SHIFT7 + 6 * (7 - j)) b → 0 < j → j ≤ 7 → Follows (quick e) (OfSprite (Shift r j)) b
     shift zero is some l = absurd (omega (arith, some))
     shift (suc zero) is some l = record { same = _; is = is; follows = refl }
     shift (suc (suc zero)) is some l = record { same = _; is = is; follows = refl }
@@ -61,10 +61,10 @@ sprite_follows e (Shift r j) b h o = shift j (is_on_3 (at_shift7 + 6 * (7 - j)) 
     shift (suc (suc (suc (suc (suc (suc (suc zero))))))) is some l = record { same = _; is = is; follows = refl }
     shift (suc (suc (suc (suc (suc (suc (suc (suc j)))))))) is some l = absurd (omega (arith, l))
 sprite_follows e (Shifted r) b h o = record { same = _; is = is_preparing o.0.0; follows = refl }
-sprite_follows e (RowRight r) b h o = record { same = on_3 at_row_right b; is = is_on_3 at_row_right b o.0.0.p o.0.0.r3; follows = refl }
+sprite_follows e (RowRight r) b h o = record { same = on_3 AT_ROW_RIGHT b; is = is_on_3 AT_ROW_RIGHT b o.0.0.p o.0.0.r3; follows = refl }
 sprite_follows e (RowStore r) b h o = record { same = _; is = is_preparing o.0.0; follows = refl }
 sprite_follows e Ready b h o = record { same = _; is = is_preparing o.0; follows = refl }
-sprite_follows e (Line r) b h o = record { same = on_3 at_line b; is = is_on_3 at_line b o.0.0.p o.0.0.r3; follows = refl }
+sprite_follows e (Line r) b h o = record { same = on_3 AT_LINE b; is = is_on_3 AT_LINE b o.0.0.p o.0.0.r3; follows = refl }
 sprite_follows e (LineLeft r) b h o = record { same = _; is = is_painting o.0.0; follows = refl }
 sprite_follows e (LineRight r) b h o = record { same = _; is = is_painting o.0.0; follows = refl }
 sprite_follows e Drawn b h o = record { same = _; is = is_painting o.0; follows = refl }

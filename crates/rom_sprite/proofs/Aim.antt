@@ -8,18 +8,17 @@ use Rattle.machine.specs.Memory.{read, written}
 use Rattle.machine.specs.Board.{Machine}
 use Rattle.machine.specs.Ranges.{FitsMachine}
 use Rattle.chip8_lang.specs.declared.view.Edition.{Edition}
-use Rattle.chip8_lang.specs.declared.view.Edition.TheVariants.{Usual, Tall}
 use Rattle.chip8_lang.specs.declared.view.Stop.TheVariants.{ReadOutside}
 use Rattle.chip8_lang.specs.Editions.{rows_of}
 use Rattle.chip8_lang.specs.State.{Lang, variable, is_in_memory, is_in_font, is_fetchable}
 use Rattle.chip8_lang.specs.Step.{next, stop_of}
 use Rattle.chip8_lang.specs.Timed.{outside_cycles}
-use Rattle.chip8_image.specs.Labels.{at_fetch, at_draw, at_draw_check, at_draw_found, at_place, at_edge, at_fits, at_angle, at_begin}
+use Rattle.chip8_image.specs.declared.image.labels.TheConstants.{AT_FETCH, AT_DRAW, AT_DRAW_CHECK, AT_DRAW_FOUND, AT_PLACE, AT_EDGE, AT_FITS, AT_ANGLE, AT_BEGIN}
 use Rattle.rom_law.proofs.Moves.{quicks}
 use Rattle.rom_law.specs.Program.{Program, code}
 use Rattle.rom_law.specs.Holding.{Places, places, Holding}
 use Rattle.rom_law.specs.Rows.{Since, now}
-use Rattle.rom_law.proofs.Places.{memory_fits, v_get, i_is, work_set, work_get}
+use Rattle.rom_law.proofs.Places.{memory_fits, v_get, i_is, work_set, work_get, few_rows}
 use Rattle.rom_law.proofs.Kept.{RunsBlock}
 use Rattle.rom_rows.specs.Heads.{to_stop, by_edition, high_byte, low_byte, page_of, Enters}
 use Rattle.rom_rows.specs.Checks.{answer_time, Calls, Checked, Answer, answer_number}
@@ -33,32 +32,13 @@ use Rattle.rom_rows.specs.Table.{calm_pieces}
 use Rattle.rom_rows.specs.Table.Block.{OfSprite}
 use Rattle.rom_rows.proofs.Bits.{borrowed, not_borrowed}
 use Rattle.rom_rows.proofs.Branches.{branch}
-use Rattle.rom_rows.proofs.Bytes.{variables_is, stack_top_is, page_fits, page_low}
+use Rattle.rom_rows.proofs.Bytes.{variables_is, stack_top_is, page_fits, page_low, screen_is, screen_page_is, rows_byte, rows_mask, below_rows}
 use Rattle.rom_rows.proofs.Entry.{entered, is_inside}
 use Rattle.rom_rows.proofs.Times.{aim_none, aim_game, aim_font, edge_none, edge_some}
 use Rattle.rom_rows.proofs.Follows.{to_fetch, to_memory, to_sprite}
 use Rattle.rom_rows.proofs.Straight.{routine}
 use Rattle.rom_rows.proofs.Ways.{straight, forks}
 use Rattle.rom_sprite.proofs.Rom.{both, quick}
-use Rattle.rom_sprite.proofs.Screen.{screen_is, few_rows}
-
--- ---- the editions
-
-rows_byte : (e : Edition) → by_edition e 32 64 ≡ rows_of e
-rows_byte Usual = refl
-rows_byte Tall = refl
-
-rows_mask : (e : Edition) (v : ℕ) → bit_and v (by_edition e 31 63) ≡ v % rows_of e
-rows_mask Usual v = and_mask v 5
-rows_mask Tall v = and_mask v 6
-
-screen_page : (e : Edition) → by_edition e 15 14 ≡ page_of e + 1
-screen_page Usual = refl
-screen_page Tall = refl
-
-pub below_rows : (e : Edition) (v : ℕ) → v % rows_of e < rows_of e
-below_rows Usual v = omega arith
-below_rows Tall v = omega arith
 
 -- ---- the machine
 
@@ -69,7 +49,7 @@ aiming e a high low b =
         p = 3;
         r = record b.regs.r {
           r3 = word_of a;
-          r4 = word_of at_fetch;
+          r4 = word_of AT_FETCH;
           r6 = word (page_of e) (240 + high % 16);
           r7 = word (page_of e) (240 + low / 16);
         };
@@ -98,7 +78,7 @@ is_summing {b = b} o w =
 
 -- the machine behind the range check
 abbrev pub resumed : Edition → ℕ → ℕ → ℕ → Machine → Machine
-resumed e high low d b = record (aiming e at_draw_found high low b) { regs = record (aiming e at_draw_found high low b).regs { d = d } }
+resumed e high low d b = record (aiming e AT_DRAW_FOUND high low b) { regs = record (aiming e AT_DRAW_FOUND high low b).regs { d = d } }
 
 pub is_resumed : {e : Edition} {answer : Answer} {b : Machine} {s : Lang} → Checked (quick e) ForDraw answer b s
     → b ≡ resumed e (high_byte s) (low_byte s) (answer_number answer) b
@@ -142,9 +122,9 @@ module _ (e : Edition) (b : Machine) (h : Since) (f : FitsMachine b) where
   none_asked : asked (now h) ≡ 0 → (asked (now h) == 0) ≡ true
   none_asked n = eq-eqb _ _ n
 
-  pub draw_comes : Enters (quick e) at_draw 13 b (now h) → h.spent ≡ 80 → RunsBlock (quick e) (calm_pieces (quick e)) (OfSprite Draw) b h
+  pub draw_comes : Enters (quick e) AT_DRAW 13 b (now h) → h.spent ≡ 80 → RunsBlock (quick e) (calm_pieces (quick e)) (OfSprite Draw) b h
   draw_comes o spent =
-      branch (OfSprite Draw) o.entered (on_at (quicks (code (quick e)) 4 (entered e at_draw high low b))) (bit_and low 15 == 0) at_place at_draw_check
+      branch (OfSprite Draw) o.entered (on_at (quicks (code (quick e)) 4 (entered e AT_DRAW high low b))) (bit_and low 15 == 0) AT_PLACE AT_DRAW_CHECK
       (omega arith) refl
       (λ k h' g. to_sprite (quick e) g _ refl Place tt
       (record {
@@ -182,7 +162,7 @@ module _ (e : Edition) (b : Machine) (h : Since) (f : FitsMachine b) where
       some : (bit_and low 15 == 0) ≡ false → 0 < low % 16
       some k = omega (arith, and_mask low 4, eqb-false (bit_and low 15) 0 k)
 
-  pub draw_check_comes : Enters (quick e) at_draw_check 13 b (now h) → b.regs.r.re.lo ≡ asked (now h) → 0 < asked (now h) → h.spent ≡ 88
+  pub draw_check_comes : Enters (quick e) AT_DRAW_CHECK 13 b (now h) → b.regs.r.re.lo ≡ asked (now h) → 0 < asked (now h) → h.spent ≡ 88
       → RunsBlock (quick e) (calm_pieces (quick e)) (OfSprite DrawCheck) b h
   draw_check_comes o count some spent = routine (OfSprite DrawCheck) o.entered _ (omega arith) refl
       (λ h' g. to_memory (quick e) g _ refl (Check ForDraw)
@@ -211,8 +191,8 @@ module _ (e : Edition) (b : Machine) (h : Since) (f : FitsMachine b) where
   -- at the first of the rows to count
   found : {answer : Answer} → Checked (quick e) ForDraw answer b (now h)
       → (is_in_memory e (now h).i (low % 16) || is_in_font (now h).i (low % 16)) ≡ true → (c : Machine) → Holding (quick e) (places c) (next (now h))
-      → c.regs.p ≡ 3 → c.regs.r.r3 ≡ word_of at_place → c.regs.r.r4 ≡ word_of at_fetch → c.regs.r.r6 ≡ word (page_of e) (0xf0 + high % 16)
-      → c.regs.r.r7 ≡ word (page_of e) (0xf0 + low / 16) → c.regs.r.re.lo ≡ b.regs.r.re.lo → Aiming (quick e) at_place (asked (now h)) c (now h)
+      → c.regs.p ≡ 3 → c.regs.r.r3 ≡ word_of AT_PLACE → c.regs.r.r4 ≡ word_of AT_FETCH → c.regs.r.r6 ≡ word (page_of e) (0xf0 + high % 16)
+      → c.regs.r.r7 ≡ word (page_of e) (0xf0 + low / 16) → c.regs.r.re.lo ≡ b.regs.r.re.lo → Aiming (quick e) AT_PLACE (asked (now h)) c (now h)
   found o fits c holds p r3 r4 r6 r7 re =
       record {
         draws = record { inside = o.called.inside; digit = o.called.calls.0; readable = or_right (asked (now h) == 0) _ fits };
@@ -307,11 +287,11 @@ module _ (e : Edition) (b : Machine) (h : Since) (f : FitsMachine b) where
   abbrev more_df : ℕ
   more_df = (b.regs.r.re.lo + 256 - again down_to) / 256
 
-  pub place_comes : Aiming (quick e) at_place (asked (now h)) b (now h) → h.spent ≡ 88 + aim_time e (now h)
+  pub place_comes : Aiming (quick e) AT_PLACE (asked (now h)) b (now h) → h.spent ≡ 88 + aim_time e (now h)
       → RunsBlock (quick e) (calm_pieces (quick e)) (OfSprite Place) b h
   place_comes o spent =
-      forks (OfSprite Place) o.holds (aiming e at_place high low b) (is_aiming o) (on_at (quicks (code (quick e)) 12 (aiming e at_place high low b)))
-      (not (more_df == 1)) at_fits at_edge (omega (arith, stack_there o, page_low e)) refl
+      forks (OfSprite Place) o.holds (aiming e AT_PLACE high low b) (is_aiming o) (on_at (quicks (code (quick e)) 12 (aiming e AT_PLACE high low b)))
+      (not (more_df == 1)) AT_FITS AT_EDGE (omega (arith, stack_there o, page_low e)) refl
       (λ k h' g. to_sprite (quick e) g _ refl Fits tt (
         record {
           draws = o.draws;
@@ -346,9 +326,9 @@ module _ (e : Edition) (b : Machine) (h : Since) (f : FitsMachine b) where
       more : not (more_df == 1) ≡ false → rows_of e - top e (now h) ≤ asked (now h)
       more k = omega (arith, not_borrowed more_df k, again_is o down_to, down_is o, o.count, few_rows e)
 
-  pub edge_comes : Aiming (quick e) at_edge (asked (now h)) b (now h) → Summing (quick e) b → rows_of e ≤ top e (now h) + asked (now h)
+  pub edge_comes : Aiming (quick e) AT_EDGE (asked (now h)) b (now h) → Summing (quick e) b → rows_of e ≤ top e (now h) + asked (now h)
       → h.spent ≡ 112 + aim_time e (now h) → RunsBlock (quick e) (calm_pieces (quick e)) (OfSprite Edge) b h
-  edge_comes o w past spent = straight (OfSprite Edge) o.holds (summing e at_edge high low b) (is_summing o w) _ (omega (arith, stack_there o, page_low e)) refl
+  edge_comes o w past spent = straight (OfSprite Edge) o.holds (summing e AT_EDGE high low b) (is_summing o w) _ (omega (arith, stack_there o, page_low e)) refl
       (λ h' g. to_sprite (quick e) g _ refl Fits tt (
         record {
           draws = o.draws;
@@ -376,11 +356,11 @@ module _ (e : Edition) (b : Machine) (h : Since) (f : FitsMachine b) where
   x8 = bit_and vx 63 / 2 / 2 / 2
 
   abbrev fitted : Machine
-  fitted = quicks (code (quick e)) 20 (summing e at_fits high low b)
+  fitted = quicks (code (quick e)) 20 (summing e AT_FITS high low b)
 
-  pub fits_comes : Aiming (quick e) at_fits (height e (now h)) b (now h) → Summing (quick e) b → h.spent ≡ 112 + aim_time e (now h) + edge_time e (now h)
+  pub fits_comes : Aiming (quick e) AT_FITS (height e (now h)) b (now h) → Summing (quick e) b → h.spent ≡ 112 + aim_time e (now h) + edge_time e (now h)
       → RunsBlock (quick e) (calm_pieces (quick e)) (OfSprite Fits) b h
-  fits_comes o w spent = straight (OfSprite Fits) o.holds (summing e at_fits high low b) (is_summing o w) fitted (omega (arith, stack_there o, page_low e)) refl
+  fits_comes o w spent = straight (OfSprite Fits) o.holds (summing e AT_FITS high low b) (is_summing o w) fitted (omega (arith, stack_there o, page_low e)) refl
       (λ h' g. to_sprite (quick e) g fitted refl Angle tt (
         record {
           draws = o.draws;
@@ -401,7 +381,7 @@ module _ (e : Edition) (b : Machine) (h : Since) (f : FitsMachine b) where
       sum =
           omega (
             arith,
-            screen_page e,
+            screen_page_is e,
             screen_is e,
             page_fits e,
             again_is o x8,
@@ -421,10 +401,10 @@ module _ (e : Edition) (b : Machine) (h : Since) (f : FitsMachine b) where
   abbrev left_out : ℕ
   left_out = (7 + 256 - bit_and vx 7) % 256
 
-  pub angle_comes : Aiming (quick e) at_angle (height e (now h)) b (now h) → Summing (quick e) b → Aimed (quick e) b (now h)
+  pub angle_comes : Aiming (quick e) AT_ANGLE (height e (now h)) b (now h) → Summing (quick e) b → Aimed (quick e) b (now h)
       → h.spent ≡ 152 + aim_time e (now h) + edge_time e (now h)
       → RunsBlock (quick e) (calm_pieces (quick e)) (OfSprite Angle) b h
-  angle_comes o w z spent = straight (OfSprite Angle) o.holds (summing e at_angle high low b) (is_summing o w) _ (omega (arith, stack_there o, page_low e)) refl
+  angle_comes o w z spent = straight (OfSprite Angle) o.holds (summing e AT_ANGLE high low b) (is_summing o w) _ (omega (arith, stack_there o, page_low e)) refl
       (λ h' g. to_sprite (quick e) g _ refl Begin tt (
         record {
           draws = o.draws;
@@ -451,9 +431,9 @@ module _ (e : Edition) (b : Machine) (h : Since) (f : FitsMachine b) where
   no_less : (n : ℕ) → n ≡ n - 0
   no_less n = omega arith
 
-  pub begin_comes : Aiming (quick e) at_begin (height e (now h)) b (now h) → Aimed (quick e) b (now h) → b.regs.r.rc.lo ≡ entry_of (now h)
+  pub begin_comes : Aiming (quick e) AT_BEGIN (height e (now h)) b (now h) → Aimed (quick e) b (now h) → b.regs.r.rc.lo ≡ entry_of (now h)
       → h.spent ≡ 170 + aim_time e (now h) + edge_time e (now h) → RunsBlock (quick e) (calm_pieces (quick e)) (OfSprite Begin) b h
-  begin_comes o z entry spent = straight (OfSprite Begin) o.holds (aiming e at_begin high low b) (is_aiming o) _ (omega arith) refl
+  begin_comes o z entry spent = straight (OfSprite Begin) o.holds (aiming e AT_BEGIN high low b) (is_aiming o) _ (omega arith) refl
       (λ h' g. to_sprite (quick e) g _ refl (Row 0) tt (
         record {
           draws = o.draws;

@@ -12,7 +12,7 @@ use Rattle.chip8_lang.specs.Editions.{screen_start, rows_of}
 use Rattle.chip8_lang.specs.State.{Lang, instr_at}
 use Rattle.chip8_lang.specs.Step.{next, stop_of, step, done_by}
 use Rattle.chip8_lang.specs.Step.KeyInput.{Nothing}
-use Rattle.chip8_image.specs.Labels.{at_fetch, at_clear, at_clear_wait, at_wipe, at_wipe3, at_wipe6, at_wiped, at_cleared}
+use Rattle.chip8_image.specs.declared.image.labels.TheConstants.{AT_FETCH, AT_CLEAR, AT_CLEAR_WAIT, AT_WIPE, AT_WIPE3, AT_WIPE6, AT_WIPED, AT_CLEARED}
 use Rattle.rom_law.proofs.Moves.{quicks}
 use Rattle.rom_law.proofs.Ticks.{after_wait}
 use Rattle.rom_law.specs.Program.{Program, code}
@@ -38,12 +38,14 @@ use Rattle.rom_rows.proofs.Straight.{routine}
 use Rattle.rom_rows.proofs.Waited.{to_waited, starts_joined}
 use Rattle.rom_rows.proofs.Ways.{straight_on, forks_on}
 use Rattle.rom_sprite.proofs.Rom.{quick}
-use Rattle.rom_sprite.proofs.Screen.{screen_is, screen_ends, some_rows, few_rows, all_left, none_left, cleared_one}
+use Rattle.rom_sprite.proofs.Screen.{all_left, none_left, cleared_one}
 use Rattle.rom_sprite.proofs.Waits.{waking, woken_fits, waits}
+use Rattle.rom_law.proofs.Places.{screen_ends, some_rows, few_rows}
+use Rattle.rom_rows.proofs.Bytes.{screen_is}
 
 -- the machine in 00E0
 abbrev pub clearing : ℕ → Machine → Machine
-clearing a b = record b { regs = record b.regs { p = 3; x = 13; r = record b.regs.r { r3 = word_of a; r4 = word_of at_fetch } } }
+clearing a b = record b { regs = record b.regs { p = 3; x = 13; r = record b.regs.r { r3 = word_of a; r4 = word_of AT_FETCH } } }
 
 pub is_clearing : {x : Program} {a m : ℕ} {b : Machine} {s : Lang} → Clearing x a m b s → b ≡ clearing a b
 is_clearing {b = b} o = λ i. record b { regs = record b.regs { p = o.p i; x = o.pointer i; r = record b.regs.r { r3 = o.r3 i; r4 = o.r4 i } } }
@@ -54,7 +56,7 @@ recounted {x = x} {a = a} {b = b} {s = s} m n e o = subst (λ k. Clearing x a k 
 module _ (e : Edition) (b : Machine) (h : Since) (f : FitsMachine b) where
   -- ---- up to the wait
 
-  pub clear_comes : Entered (quick e) at_clear b (now h) → Clears (now h) → h.spent ≡ 90 → RunsBlock (quick e) (calm_pieces (quick e)) (OfSprite Clear) b h
+  pub clear_comes : Entered (quick e) AT_CLEAR b (now h) → Clears (now h) → h.spent ≡ 90 → RunsBlock (quick e) (calm_pieces (quick e)) (OfSprite Clear) b h
   clear_comes o is spent = routine (OfSprite Clear) o _ (omega arith) refl
       (λ h' g. to_sprite_place (quick e) g _ refl ClearWait
       (record {
@@ -71,9 +73,9 @@ module _ (e : Edition) (b : Machine) (h : Since) (f : FitsMachine b) where
 
   -- ---- the wait
 
-  pub clear_wait_holds : Clearing (quick e) at_clear_wait (8 * rows_of e) b (now h) → At (quick e) (AtSprite ClearWait) b h → h.spent ≡ 100
+  pub clear_wait_holds : Clearing (quick e) AT_CLEAR_WAIT (8 * rows_of e) b (now h) → At (quick e) (AtSprite ClearWait) b h → h.spent ≡ 100
       → RunsPlace (quick e) (calm_pieces (quick e)) (AtSprite ClearWait) b h
-  clear_wait_holds o at spent = alone (AtSprite ClearWait) f at o.holds (clearing at_clear_wait b) (is_clearing o) refl refl refl
+  clear_wait_holds o at spent = alone (AtSprite ClearWait) f at o.holds (clearing AT_CLEAR_WAIT b) (is_clearing o) refl refl refl
       (λ u. to_sprite_place (quick e) (one_more u h) _ refl ClearIdle (
         record {
           holds = waking o.holds;
@@ -88,20 +90,20 @@ module _ (e : Edition) (b : Machine) (h : Since) (f : FitsMachine b) where
         refl,
       ) (omega (arith, spent)))
 
-  pub clear_wakes : Clearing (quick e) at_wipe (8 * rows_of e) (woken b) (now h) → h.spent ≡ 102 → (c : Machine) → Tick (code (quick e)).low b c
+  pub clear_wakes : Clearing (quick e) AT_WIPE (8 * rows_of e) (woken b) (now h) → h.spent ≡ 102 → (c : Machine) → Tick (code (quick e)).low b c
       → Starts (waited_pieces (quick e)) c (after_tick h)
   clear_wakes o spent c k =
       Enters (Wipe (rows_of e - 1), tt) (
         (
           recounted (8 * rows_of e) (8 * (rows_of e - 1)
               + 8) (omega (arith, some_rows e)) (clearing_later (quick e) 1 (after_wait (code (quick e)).low b c k) (woken_fits b f)
-              (now h) at_wipe (8 * rows_of e) o),
+              (now h) AT_WIPE (8 * rows_of e) o),
           omega (arith, some_rows e),
         ),
         (omega (arith, spent, few_rows e, some_rows e), omega arith),
       )
 
-  pub clear_idle_holds : Clearing (quick e) at_wipe (8 * rows_of e) (woken b) (now h) → b.regs.idle ≡ true → h.spent ≡ 102
+  pub clear_idle_holds : Clearing (quick e) AT_WIPE (8 * rows_of e) (woken b) (now h) → b.regs.idle ≡ true → h.spent ≡ 102
       → RunsPlace (quick e) (pieces (quick e)) (AtSprite ClearIdle) b h
   clear_idle_holds o idle spent = waits (AtSprite ClearIdle) o.holds idle
       (λ c k. starts_joined (quick e) c (after_tick h) (clear_wakes o spent c k))
@@ -146,9 +148,9 @@ module _ (e : Edition) (b : Machine) (h : Since) (f : FitsMachine b) where
   is_zeroed : {a n : ℕ} → Clearing (quick e) a n b (now h) → b.regs.d ≡ 0 → b ≡ zeroed a
   is_zeroed {a = a} o d = is_clearing o ∙ (λ i. record (clearing a b) { regs = record (clearing a b).regs { d = d i } })
 
-  pub wipe_comes : (k : ℕ) → Clearing (quick e) at_wipe (8 * k + 8) b (now h) → k < rows_of e → h.spent ≡ 102 + 24 * (rows_of e - 1 - k) → 1 ≤ h.ticks
+  pub wipe_comes : (k : ℕ) → Clearing (quick e) AT_WIPE (8 * k + 8) b (now h) → k < rows_of e → h.spent ≡ 102 + 24 * (rows_of e - 1 - k) → 1 ≤ h.ticks
       → RunsBlock (quick e) (waited_pieces (quick e)) (Wipe k, tt) b h
-  wipe_comes k o inside spent tick = straight_on (Wipe k) tt o.holds (clearing at_wipe b) (is_clearing o) _ (omega arith) refl
+  wipe_comes k o inside spent tick = straight_on (Wipe k) tt o.holds (clearing AT_WIPE b) (is_clearing o) _ (omega arith) refl
       (λ h' g. to_waited (quick e) g _ refl (Wipe3 k) tt (
         record {
           holds = two o (8 * k + 6) (omega arith) (omega (arith, inside));
@@ -165,9 +167,9 @@ module _ (e : Edition) (b : Machine) (h : Since) (f : FitsMachine b) where
       )
       (omega (arith, spent, g.spent), omega (arith, tick, g.ticks)))
 
-  pub wipe3_comes : (k : ℕ) → Clearing (quick e) at_wipe3 (8 * k + 6) b (now h) → k < rows_of e → b.regs.d ≡ 0 → h.spent ≡ 108 + 24 * (rows_of e - 1 - k)
+  pub wipe3_comes : (k : ℕ) → Clearing (quick e) AT_WIPE3 (8 * k + 6) b (now h) → k < rows_of e → b.regs.d ≡ 0 → h.spent ≡ 108 + 24 * (rows_of e - 1 - k)
       → 1 ≤ h.ticks → RunsBlock (quick e) (waited_pieces (quick e)) (Wipe3 k, tt) b h
-  wipe3_comes k o inside d spent tick = straight_on (Wipe3 k) tt o.holds (zeroed at_wipe3) (is_zeroed o d) _ (omega arith) refl
+  wipe3_comes k o inside d spent tick = straight_on (Wipe3 k) tt o.holds (zeroed AT_WIPE3) (is_zeroed o d) _ (omega arith) refl
       (λ h' g. to_waited (quick e) g _ refl (Wipe6 k) tt (
         record {
           holds = three o (8 * k + 3) (omega arith) (omega (arith, inside));
@@ -184,9 +186,9 @@ module _ (e : Edition) (b : Machine) (h : Since) (f : FitsMachine b) where
       )
       (omega (arith, spent, g.spent), omega (arith, tick, g.ticks)))
 
-  pub wipe6_comes : (k : ℕ) → Clearing (quick e) at_wipe6 (8 * k + 3) b (now h) → k < rows_of e → b.regs.d ≡ 0 → h.spent ≡ 114 + 24 * (rows_of e - 1 - k)
+  pub wipe6_comes : (k : ℕ) → Clearing (quick e) AT_WIPE6 (8 * k + 3) b (now h) → k < rows_of e → b.regs.d ≡ 0 → h.spent ≡ 114 + 24 * (rows_of e - 1 - k)
       → 1 ≤ h.ticks → RunsBlock (quick e) (waited_pieces (quick e)) (Wipe6 k, tt) b h
-  wipe6_comes k o inside d spent tick = straight_on (Wipe6 k) tt o.holds (zeroed at_wipe6) (is_zeroed o d) _ (omega arith) refl
+  wipe6_comes k o inside d spent tick = straight_on (Wipe6 k) tt o.holds (zeroed AT_WIPE6) (is_zeroed o d) _ (omega arith) refl
       (λ h' g. to_waited (quick e) g _ refl (Wiped k) tt (
         record {
           holds = three o (8 * k) (omega arith) (omega (arith, inside));
@@ -238,11 +240,11 @@ module _ (e : Edition) (b : Machine) (h : Since) (f : FitsMachine b) where
       empty_now : 8 * k ≡ 0
       empty_now = omega (arith, none)
 
-  pub wiped_comes : (k : ℕ) → Clearing (quick e) at_wiped (8 * k) b (now h) → k < rows_of e → h.spent ≡ 120 + 24 * (rows_of e - 1 - k) → 1 ≤ h.ticks
+  pub wiped_comes : (k : ℕ) → Clearing (quick e) AT_WIPED (8 * k) b (now h) → k < rows_of e → h.spent ≡ 120 + 24 * (rows_of e - 1 - k) → 1 ≤ h.ticks
       → RunsBlock (quick e) (waited_pieces (quick e)) (Wiped k, tt) b h
   wiped_comes k o inside spent tick =
-      forks_on (Wiped k) tt o.holds (clearing at_wiped b) (is_clearing o) (on_at (quicks (code (quick e)) 3 (clearing at_wiped b)))
-      (not (below == 0)) at_wipe at_cleared (omega arith) refl
+      forks_on (Wiped k) tt o.holds (clearing AT_WIPED b) (is_clearing o) (on_at (quicks (code (quick e)) 3 (clearing AT_WIPED b)))
+      (not (below == 0)) AT_WIPE AT_CLEARED (omega arith) refl
       (λ n h' g. to_waited (quick e) g _ refl (Wipe (k - 1)) tt (
         recounted (8 * k) (8 * (k - 1)
             + 8) (omega (arith, on_screen o n)) (record {
@@ -262,9 +264,9 @@ module _ (e : Edition) (b : Machine) (h : Since) (f : FitsMachine b) where
       (record { holds = empties o (past_screen o n); inside = o.inside; p = refl; r3 = refl; r4 = refl }, o.clears)
       (omega (arith, spent, g.spent, past_screen o n), omega (arith, tick, g.ticks)))
 
-  pub cleared_comes : Done (quick e) at_cleared b (now h) → Clears (now h) → h.spent ≡ 102 + 24 * rows_of e → 1 ≤ h.ticks
+  pub cleared_comes : Done (quick e) AT_CLEARED b (now h) → Clears (now h) → h.spent ≡ 102 + 24 * rows_of e → 1 ≤ h.ticks
       → RunsBlock (quick e) (waited_pieces (quick e)) (Cleared, tt) b h
-  cleared_comes o is spent tick = straight_on Cleared tt o.holds (on_3 at_cleared b) (is_on_3 at_cleared b o.p o.r3) _ (omega arith) refl
+  cleared_comes o is spent tick = straight_on Cleared tt o.holds (on_3 AT_CLEARED b) (is_on_3 AT_CLEARED b o.p o.r3) _ (omega arith) refl
       (λ h' g. clears e g tick runs (clear_is is) (omega (arith, spent)) _
       (subst (λ j. Holding (quick e) (places b) (done_by e j Nothing (now h))) (clear_is is) o.holds) refl o.r4)
     where

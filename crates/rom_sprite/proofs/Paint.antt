@@ -14,7 +14,7 @@ use Rattle.chip8_lang.specs.Screen.{Pixels, difference, either, meets, flag, dot
 use Rattle.chip8_lang.specs.State.{Lang, instr_at, readable_byte}
 use Rattle.chip8_lang.specs.Step.{next, stop_of, sprite_row}
 use Rattle.chip8_lang.specs.Ticks.{tick}
-use Rattle.chip8_image.specs.Labels.{at_fetch, at_ready, at_draw_wait, at_line, at_line_left, at_line_right, at_drawn}
+use Rattle.chip8_image.specs.declared.image.labels.TheConstants.{AT_FETCH, AT_READY, AT_DRAW_WAIT, AT_LINE, AT_LINE_LEFT, AT_LINE_RIGHT, AT_DRAWN}
 use Rattle.rom_law.proofs.Moves.{quicks, read_rom}
 use Rattle.rom_law.proofs.Ticks.{after_wait}
 use Rattle.rom_law.specs.Program.{code}
@@ -22,7 +22,7 @@ use Rattle.rom_law.specs.Holding.{Places, places, Holding}
 use Rattle.machine.specs.Schedule.{Tick}
 use Rattle.rom_law.specs.Rows.{Since, Starts, now, after_tick}
 use Rattle.rom_law.specs.Rows.Starts.{Enters}
-use Rattle.rom_law.proofs.Places.{read_is, v_set}
+use Rattle.rom_law.proofs.Places.{read_is, v_set, screen_ends}
 use Rattle.rom_law.proofs.Kept.{RunsBlock, RunsPlace}
 use Rattle.rom_rows.specs.Heads.{high_byte, low_byte, page_of}
 use Rattle.rom_rows.specs.Dots.{left, right, dots_of_byte}
@@ -34,7 +34,7 @@ use Rattle.rom_rows.specs.Table.Block.{OfSprite}
 use Rattle.rom_rows.specs.Table.Place.{AtSprite}
 use Rattle.rom_rows.proofs.Alone.{alone, one_more}
 use Rattle.rom_rows.proofs.Bits.{nonzero, is_zero}
-use Rattle.rom_rows.proofs.Bytes.{memory_end_is, variables_is, stack_top_is, page_fits, page_low}
+use Rattle.rom_rows.proofs.Bytes.{memory_end_is, variables_is, stack_top_is, page_fits, page_low, screen_is, work_is}
 use Rattle.rom_rows.proofs.Entry.{on_3, is_on_3}
 use Rattle.rom_rows.proofs.Follows.{to_sprite_place}
 use Rattle.rom_rows.proofs.Font.{Readable, readable_get}
@@ -47,15 +47,14 @@ use Rattle.rom_sprite.proofs.Aim.{on_at}
 use Rattle.rom_sprite.proofs.Bytes.{Apart, difference_either, meets_either}
 use Rattle.rom_sprite.proofs.Dots.{apart_left, apart_right, left_small, right_small, right_last, rows_grow, bottom}
 use Rattle.rom_sprite.proofs.Pixels.{screen_hit, screen_put, kept_below, none_drawn, none_met, counted}
-use Rattle.rom_sprite.proofs.Prepare.{preparing, is_preparing, work_is, readable_row}
-use Rattle.rom_sprite.proofs.Screen.{screen_is, screen_ends}
+use Rattle.rom_sprite.proofs.Prepare.{preparing, is_preparing, readable_row}
 use Rattle.rom_sprite.proofs.Waits.{waking, woken_fits, waits}
 
 -- the machine while the rows are drawn
 abbrev pub painting : Edition → ℕ → ℕ → Machine → Machine
 painting e a w b =
     record b {
-      regs = record b.regs { p = 3; x = 13; r = record b.regs.r { r3 = word_of a; r4 = word_of at_fetch; r7 = word (page_of e) (0xd0 + w) } };
+      regs = record b.regs { p = 3; x = 13; r = record b.regs.r { r3 = word_of a; r4 = word_of AT_FETCH; r7 = word (page_of e) (0xd0 + w) } };
     }
 
 pub is_painting : {e : Edition} {a w m n : ℕ} {d : Pixels} {b : Machine} {s : Lang} → Painting (quick e) a w m n d b s → b ≡ painting e a w b
@@ -76,9 +75,9 @@ module _ (e : Edition) (b : Machine) (h : Since) (f : FitsMachine b) where
   no_less : (n : ℕ) → n ≡ n - 0
   no_less n = omega arith
 
-  pub ready_comes : Preparing (quick e) at_ready rows rows rows b (now h)
+  pub ready_comes : Preparing (quick e) AT_READY rows rows rows b (now h)
       → h.spent ≡ 198 + aim_time e (now h) + edge_time e (now h) + rows_time (now h) rows → RunsBlock (quick e) (calm_pieces (quick e)) (OfSprite Ready) b h
-  ready_comes o spent = straight (OfSprite Ready) o.holds (preparing e at_ready (rows + rows) b) (is_preparing o) _ (omega arith) refl
+  ready_comes o spent = straight (OfSprite Ready) o.holds (preparing e AT_READY (rows + rows) b) (is_preparing o) _ (omega arith) refl
       (λ h' g. to_sprite_place (quick e) g _ refl DrawWait (record {
         draws = o.draws;
         holds =
@@ -98,10 +97,10 @@ module _ (e : Edition) (b : Machine) (h : Since) (f : FitsMachine b) where
 
   -- ---- the wait
 
-  pub draw_wait_holds : Painting (quick e) at_draw_wait 0 0 rows (lit e 0 (now h)) b (now h) → At (quick e) (AtSprite DrawWait) b h
+  pub draw_wait_holds : Painting (quick e) AT_DRAW_WAIT 0 0 rows (lit e 0 (now h)) b (now h) → At (quick e) (AtSprite DrawWait) b h
       → h.spent ≡ draw_time e (now h) - 2
       → RunsPlace (quick e) (calm_pieces (quick e)) (AtSprite DrawWait) b h
-  draw_wait_holds o at spent = alone (AtSprite DrawWait) f at o.holds (painting e at_draw_wait 0 b) (is_painting o) refl refl refl
+  draw_wait_holds o at spent = alone (AtSprite DrawWait) f at o.holds (painting e AT_DRAW_WAIT 0 b) (is_painting o) refl refl refl
       (λ u. to_sprite_place (quick e) (one_more u h) _ refl DrawIdle (
         record {
           draws = o.draws;
@@ -121,37 +120,37 @@ module _ (e : Edition) (b : Machine) (h : Since) (f : FitsMachine b) where
       )
       (omega (arith, spent)))
 
-  pub draw_wakes : Painting (quick e) at_line 0 0 rows (lit e 0 (now h)) (woken b) (now h) → h.spent ≡ draw_time e (now h) → (c : Machine)
+  pub draw_wakes : Painting (quick e) AT_LINE 0 0 rows (lit e 0 (now h)) (woken b) (now h) → h.spent ≡ draw_time e (now h) → (c : Machine)
       → Tick (code (quick e)).low b c → Starts (waited_pieces (quick e)) c (after_tick h)
   draw_wakes o spent c k =
       Enters (Line 0, tt) (
         (
-          subst (λ n. Painting (quick e) at_line 0 0 n (lit e 0 (tick (now h))) c (tick (now h))) (no_less
+          subst (λ n. Painting (quick e) AT_LINE 0 0 n (lit e 0 (tick (now h))) c (tick (now h))) (no_less
               (height e (tick (now h)))) (painting_later (quick e) 1 (after_wait (code (quick e)).low b c k) (woken_fits b f)
-              (now h) at_line o),
+              (now h) AT_LINE o),
           omega arith,
         ),
         (omega (arith, spent), omega arith),
       )
 
-  pub draw_idle_holds : Painting (quick e) at_line 0 0 rows (lit e 0 (now h)) (woken b) (now h) → b.regs.idle ≡ true → h.spent ≡ draw_time e (now h)
+  pub draw_idle_holds : Painting (quick e) AT_LINE 0 0 rows (lit e 0 (now h)) (woken b) (now h) → b.regs.idle ≡ true → h.spent ≡ draw_time e (now h)
       → RunsPlace (quick e) (pieces (quick e)) (AtSprite DrawIdle) b h
   draw_idle_holds o idle spent = waits (AtSprite DrawIdle) o.holds idle
       (λ c k. starts_joined (quick e) c (after_tick h) (draw_wakes o spent c k))
 
   -- ---- are all rows drawn
 
-  pub line_comes : (r : ℕ) → Painting (quick e) at_line (2 * r) (8 * r) (rows - r) (lit e r (now h)) b (now h) → r ≤ rows
+  pub line_comes : (r : ℕ) → Painting (quick e) AT_LINE (2 * r) (8 * r) (rows - r) (lit e r (now h)) b (now h) → r ≤ rows
       → h.spent ≡ draw_time e (now h) + 58 * r
       → 1 ≤ h.ticks → RunsBlock (quick e) (waited_pieces (quick e)) (Line r, tt) b h
   line_comes r o inside spent tick =
-      forks_on (Line r) tt o.holds (on_3 at_line b) (is_on_3 at_line b o.p o.r3) (on_at (quicks (code (quick e)) 2 (on_3 at_line b)))
-      (b.regs.r.re.lo == 0) at_drawn at_line_left (omega arith) refl
+      forks_on (Line r) tt o.holds (on_3 AT_LINE b) (is_on_3 AT_LINE b o.p o.r3) (on_at (quicks (code (quick e)) 2 (on_3 AT_LINE b)))
+      (b.regs.r.re.lo == 0) AT_DRAWN AT_LINE_LEFT (omega arith) refl
       (λ k h' g. to_waited (quick e) g _ refl Drawn tt
-      (subst (λ z. Painting (quick e) at_drawn (2 * z) (8 * z) 0 (lit e z (now h))
-      (on_at (quicks (code (quick e)) 2 (on_3 at_line b)) (word_of at_drawn)) (now h)) (all k)
-      (goes at_drawn 0 (eqb-true b.regs.r.re.lo 0 k))) (omega (arith, spent, g.spent, few, all k), omega (arith, tick, g.ticks)))
-      (λ k h' g. to_waited (quick e) g _ refl (LineLeft r) tt (goes at_line_left (rows - r) o.count, more k)
+      (subst (λ z. Painting (quick e) AT_DRAWN (2 * z) (8 * z) 0 (lit e z (now h))
+      (on_at (quicks (code (quick e)) 2 (on_3 AT_LINE b)) (word_of AT_DRAWN)) (now h)) (all k)
+      (goes AT_DRAWN 0 (eqb-true b.regs.r.re.lo 0 k))) (omega (arith, spent, g.spent, few, all k), omega (arith, tick, g.ticks)))
+      (λ k h' g. to_waited (quick e) g _ refl (LineLeft r) tt (goes AT_LINE_LEFT (rows - r) o.count, more k)
       (omega (arith, spent, g.spent), omega (arith, tick, g.ticks)))
     where
       all : (b.regs.r.re.lo == 0) ≡ true → r ≡ rows
@@ -161,7 +160,7 @@ module _ (e : Edition) (b : Machine) (h : Since) (f : FitsMachine b) where
       more k = omega (arith, eqb-false b.regs.r.re.lo 0 k, o.count, inside)
 
       goes : (a n : ℕ) → b.regs.r.re.lo ≡ n
-          → Painting (quick e) a (2 * r) (8 * r) n (lit e r (now h)) (on_at (quicks (code (quick e)) 2 (on_3 at_line b)) (word_of a)) (now h)
+          → Painting (quick e) a (2 * r) (8 * r) n (lit e r (now h)) (on_at (quicks (code (quick e)) 2 (on_3 AT_LINE b)) (word_of a)) (now h)
       goes a n count =
           record {
             draws = o.draws;
@@ -270,12 +269,12 @@ module _ (e : Edition) (b : Machine) (h : Since) (f : FitsMachine b) where
     -- ---- the first one
 
     abbrev painted_left : Machine
-    painted_left = quicks (code (quick e)) 11 (painting e at_line_left (2 * r) b)
+    painted_left = quicks (code (quick e)) 11 (painting e AT_LINE_LEFT (2 * r) b)
 
-    pub line_left_comes : Painting (quick e) at_line_left (2 * r) (8 * r) (rows - r) (lit e r (now h)) b (now h) → h.spent ≡ draw_time e (now h) + 58 * r + 4
+    pub line_left_comes : Painting (quick e) AT_LINE_LEFT (2 * r) (8 * r) (rows - r) (lit e r (now h)) b (now h) → h.spent ≡ draw_time e (now h) + 58 * r + 4
         → 1 ≤ h.ticks → RunsBlock (quick e) (waited_pieces (quick e)) (LineLeft r, tt) b h
     line_left_comes o spent tick =
-        straight_on (LineLeft r) tt o.holds (painting e at_line_left (2 * r) b) (is_painting o) painted_left
+        straight_on (LineLeft r) tt o.holds (painting e AT_LINE_LEFT (2 * r) b) (is_painting o) painted_left
         (omega (arith, o.holds.stack, stack_top_is e, page_low e, o.rd, screen_is e)) refl
         (λ h' g. to_waited (quick e) g painted_left refl (LineRight r) tt (
           record {
@@ -324,15 +323,15 @@ module _ (e : Edition) (b : Machine) (h : Since) (f : FitsMachine b) where
     -- ---- the second one
 
     abbrev painted_right : Machine
-    painted_right = quicks (code (quick e)) 16 (painting e at_line_right (2 * r + 1) b)
+    painted_right = quicks (code (quick e)) 16 (painting e AT_LINE_RIGHT (2 * r + 1) b)
 
-    pub line_right_comes : Painting (quick e) at_line_right (2 * r + 1) (8 * r + 1) (rows - (r + 1)) (half_lit e r (now h)) b (now h)
+    pub line_right_comes : Painting (quick e) AT_LINE_RIGHT (2 * r + 1) (8 * r + 1) (rows - (r + 1)) (half_lit e r (now h)) b (now h)
         → h.spent ≡ draw_time e (now h) + 58 * r + 26 → 1 ≤ h.ticks → RunsBlock (quick e) (waited_pieces (quick e)) (LineRight r, tt) b h
     line_right_comes o spent tick =
-        straight_on (LineRight r) tt o.holds (painting e at_line_right (2 * r + 1) b) (is_painting o) painted_right
+        straight_on (LineRight r) tt o.holds (painting e AT_LINE_RIGHT (2 * r + 1) b) (is_painting o) painted_right
         (omega (arith, o.holds.stack, stack_top_is e, page_low e, o.rd, screen_is e)) refl
         (λ h' g. to_waited (quick e) g painted_right refl (Line (suc r)) tt (
-          subst (λ z. Painting (quick e) at_line (2 * suc r) (8 * suc r) (rows - suc r) z painted_right (now h)) grown (record {
+          subst (λ z. Painting (quick e) AT_LINE (2 * suc r) (8 * suc r) (rows - suc r) z painted_right (now h)) grown (record {
             draws = o.draws;
             holds = byte_holds o at is near small last room apart;
             prepared = record { lefts = byte_lefts o at is near small last room apart; rights = byte_rights o at is near small last room apart };
@@ -387,10 +386,10 @@ module _ (e : Edition) (b : Machine) (h : Since) (f : FitsMachine b) where
   abbrev drawn_by : Pixels → Lang
   drawn_by d = record (next (now h)) { screen = difference (now h).screen d; v = slice_set (now h).v 15 (flag (meets (rows_of e) (now h).screen d)) }
 
-  pub drawn_comes : Painting (quick e) at_drawn (2 * rows) (8 * rows) 0 (lit e rows (now h)) b (now h)
+  pub drawn_comes : Painting (quick e) AT_DRAWN (2 * rows) (8 * rows) 0 (lit e rows (now h)) b (now h)
       → h.spent ≡ draw_time e (now h) + 58 * rows + 4 → 1 ≤ h.ticks → RunsBlock (quick e) (waited_pieces (quick e)) (Drawn, tt) b h
   drawn_comes o spent tick =
-      straight_on Drawn tt o.holds (painting e at_drawn (2 * rows) b) (is_painting o) (quicks (code (quick e)) 10 (painting e at_drawn (2 * rows) b))
+      straight_on Drawn tt o.holds (painting e AT_DRAWN (2 * rows) b) (is_painting o) (quicks (code (quick e)) 10 (painting e AT_DRAWN (2 * rows) b))
       (omega (arith, o.holds.stack, stack_top_is e, page_low e)) refl
       (λ h' g. draws e g tick runs instr (omega (arith, spent)) _ puts refl refl)
     where

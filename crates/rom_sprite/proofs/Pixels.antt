@@ -11,11 +11,11 @@ use Rattle.chip8_lang.specs.Places.{pixels}
 use Rattle.chip8_lang.specs.Screen.{Pixels, difference, meets, dots, some_below}
 use Rattle.chip8_lang.specs.State.{Lang}
 use Rattle.rom_law.specs.Holding.{Places, Holding}
-use Rattle.rom_law.proofs.Places.{read_is, range_get, screen_set}
+use Rattle.rom_law.proofs.Places.{read_is, range_get, screen_set, screen_ends}
 use Rattle.rom_rows.specs.Dots.{dots_of_byte}
 use Rattle.rom_sprite.proofs.Rom.{both, quick}
 use Rattle.rom_sprite.proofs.Bytes.{drawn_pixels, and_meets, meets_tells, one_of_false}
-use Rattle.rom_sprite.proofs.Screen.{screen_ends, shown, screen_size}
+use Rattle.rom_sprite.proofs.Screen.{shown, screen_size}
 
 unwritten : (latch : Bool) (ram : List ℕ) (a y : ℕ) → latch ≡ false → 0x1000 ≤ a → written latch ram a y ≡ ram
 unfolding written

@@ -8,12 +8,11 @@ use Rattle.machine.specs.Memory.{read, written}
 use Rattle.machine.specs.Board.{Machine}
 use Rattle.machine.specs.Ranges.{FitsMachine}
 use Rattle.chip8_lang.specs.declared.view.Edition.{Edition}
-use Rattle.chip8_lang.specs.declared.view.Edition.TheVariants.{Usual, Tall}
 use Rattle.chip8_lang.specs.Editions.{memory_start, memory_end, font_start, font_end, sprite_work}
 use Rattle.chip8_lang.specs.State.{Lang, is_in_memory, is_in_font}
 use Rattle.chip8_lang.specs.Step.{sprite_row}
 use Rattle.chip8_lang.specs.Timed.{row_cycles}
-use Rattle.chip8_image.specs.Labels.{at_fetch, at_halt, at_row, at_row_byte, at_shift7, at_shifted, at_row_right, at_row_store, at_ready}
+use Rattle.chip8_image.specs.declared.image.labels.TheConstants.{AT_FETCH, AT_HALT, AT_ROW, AT_ROW_BYTE, AT_SHIFT7, AT_SHIFTED, AT_ROW_RIGHT, AT_ROW_STORE, AT_READY}
 use Rattle.rom_law.specs.Code.{is_event}
 use Rattle.rom_law.proofs.Moves.{AllGood, quicks, written_is}
 use Rattle.rom_law.specs.Program.{code}
@@ -27,7 +26,7 @@ use Rattle.rom_rows.specs.SpriteBlocks.SpriteBlock.{Row, RowByte, Shift, Shifted
 use Rattle.rom_rows.specs.Table.{calm_pieces, calm_top}
 use Rattle.rom_rows.specs.Table.Block.{OfSprite}
 use Rattle.rom_rows.proofs.Bits.{xor_same, xor_other}
-use Rattle.rom_rows.proofs.Bytes.{memory_end_is, variables_is, stack_top_is, page_fits}
+use Rattle.rom_rows.proofs.Bytes.{memory_end_is, variables_is, stack_top_is, page_fits, screen_is, work_is}
 use Rattle.rom_rows.proofs.Entry.{on_3, is_on_3}
 use Rattle.rom_rows.proofs.Times.{row_last, row_other, rows_next}
 use Rattle.rom_rows.proofs.Follows.{to_sprite}
@@ -35,13 +34,6 @@ use Rattle.rom_rows.proofs.Font.{Readable, readable_get}
 use Rattle.rom_rows.proofs.Ways.{straight, forks}
 use Rattle.rom_sprite.proofs.Rom.{both, quick, both_font}
 use Rattle.rom_sprite.proofs.Aim.{on_at}
-use Rattle.rom_sprite.proofs.Screen.{screen_is}
-
--- ---- the sprite work
-
-pub work_is : (e : Edition) → sprite_work e ≡ page_of e * 256 + 0xd0
-work_is Usual = refl
-work_is Tall = refl
 
 -- what is read after a write to RAM
 pub get_same : (latch : Bool) (ram : List ℕ) (i a y : ℕ) → latch ≡ false → length ram ≡ 4096 → a < 4096 → i ≡ a → slice_index (written latch ram a y) i ≡ y
@@ -70,7 +62,7 @@ readable_row e a n r l h = some (or_cases (n == 0) _ h)
 -- ---- the machine
 
 abbrev pub preparing : Edition → ℕ → ℕ → Machine → Machine
-preparing e a w b = record b { regs = record b.regs { p = 3; r = record b.regs.r { r3 = word_of a; r4 = word_of at_fetch; r7 = word (page_of e) (0xd0 + w) } } }
+preparing e a w b = record b { regs = record b.regs { p = 3; r = record b.regs.r { r3 = word_of a; r4 = word_of AT_FETCH; r7 = word (page_of e) (0xd0 + w) } } }
 
 pub is_preparing : {e : Edition} {a l r n : ℕ} {b : Machine} {s : Lang} → Preparing (quick e) a l r n b s → b ≡ preparing e a (l + r) b
 is_preparing {e = e} {l = l} {r = r} {b = b} o =
@@ -93,15 +85,15 @@ module _ (e : Edition) (b : Machine) (h : Since) (f : FitsMachine b) (r : ℕ) w
 
   -- ---- are all rows prepared
 
-  pub row_comes : Preparing (quick e) at_row r r r b (now h) → r ≤ rows → h.spent ≡ 194 + aim_time e (now h) + edge_time e (now h) + rows_time (now h) r
+  pub row_comes : Preparing (quick e) AT_ROW r r r b (now h) → r ≤ rows → h.spent ≡ 194 + aim_time e (now h) + edge_time e (now h) + rows_time (now h) r
       → RunsBlock (quick e) (calm_pieces (quick e)) (OfSprite (Row r)) b h
   row_comes o inside spent =
-      forks (OfSprite (Row r)) o.holds (on_3 at_row b) (is_on_3 at_row b o.p o.r3) (on_at (quicks (code (quick e)) 2 (on_3 at_row b)))
-      (b.regs.r.re.lo == 0) at_ready at_row_byte (omega arith) refl
+      forks (OfSprite (Row r)) o.holds (on_3 AT_ROW b) (is_on_3 AT_ROW b o.p o.r3) (on_at (quicks (code (quick e)) 2 (on_3 AT_ROW b)))
+      (b.regs.r.re.lo == 0) AT_READY AT_ROW_BYTE (omega arith) refl
       (λ k h' g. to_sprite (quick e) g _ refl Ready tt
-      (subst (λ z. Preparing (quick e) at_ready z z z (on_at (quicks (code (quick e)) 2 (on_3 at_row b)) (word_of at_ready)) (now h)) (all k)
-      (goes at_ready)) (omega (arith, spent, g.spent, ap (rows_time (now h)) (all k))))
-      (λ k h' g. to_sprite (quick e) g _ refl (RowByte r) tt (goes at_row_byte, more k) (omega (arith, spent, g.spent)))
+      (subst (λ z. Preparing (quick e) AT_READY z z z (on_at (quicks (code (quick e)) 2 (on_3 AT_ROW b)) (word_of AT_READY)) (now h)) (all k)
+      (goes AT_READY)) (omega (arith, spent, g.spent, ap (rows_time (now h)) (all k))))
+      (λ k h' g. to_sprite (quick e) g _ refl (RowByte r) tt (goes AT_ROW_BYTE, more k) (omega (arith, spent, g.spent)))
     where
       all : (b.regs.r.re.lo == 0) ≡ true → r ≡ rows
       all k = omega (arith, eqb-true b.regs.r.re.lo 0 k, o.count, inside)
@@ -109,7 +101,7 @@ module _ (e : Edition) (b : Machine) (h : Since) (f : FitsMachine b) (r : ℕ) w
       more : (b.regs.r.re.lo == 0) ≡ false → r < rows
       more k = omega (arith, eqb-false b.regs.r.re.lo 0 k, o.count, inside)
 
-      goes : (a : ℕ) → Preparing (quick e) a r r r (on_at (quicks (code (quick e)) 2 (on_3 at_row b)) (word_of a)) (now h)
+      goes : (a : ℕ) → Preparing (quick e) a r r r (on_at (quicks (code (quick e)) 2 (on_3 AT_ROW b)) (word_of a)) (now h)
       goes a =
           record {
             draws = o.draws;
@@ -132,9 +124,9 @@ module _ (e : Edition) (b : Machine) (h : Since) (f : FitsMachine b) (r : ℕ) w
   k = column (now h) % 8
 
   abbrev loaded : Word → Machine
-  loaded = on_at (quicks (code (quick e)) 7 (on_3 at_row_byte b))
+  loaded = on_at (quicks (code (quick e)) 7 (on_3 AT_ROW_BYTE b))
 
-  module _ (o : Preparing (quick e) at_row_byte r r r b (now h)) (inside : r < rows) where
+  module _ (o : Preparing (quick e) AT_ROW_BYTE r r r b (now h)) (inside : r < rows) where
     readable : Readable e ((now h).i + r)
     readable = readable_row e (now h).i (asked (now h)) r (omega (arith, inside)) o.draws.readable
 
@@ -167,7 +159,7 @@ module _ (e : Edition) (b : Machine) (h : Since) (f : FitsMachine b) (r : ℕ) w
         whole : read (both e) b.latch b.ram (value b.regs.r.rd) * 256 + 0 ≡ byte_of * 256 / 2 ^ 0
         whole = omega (arith, byte_is)
 
-    entered_at : (a : ℕ) → a ≡ at_shift7 + 6 * (7 - k) → quicks (code (quick e)) 7 (on_3 at_row_byte b) ≡ loaded (word_of a)
+    entered_at : (a : ℕ) → a ≡ AT_SHIFT7 + 6 * (7 - k) → quicks (code (quick e)) 7 (on_3 AT_ROW_BYTE b) ≡ loaded (word_of a)
     entered_at a is = ap loaded (ap₂ word page low)
       where
         page : 0x84 ≡ a / 256
@@ -176,28 +168,28 @@ module _ (e : Edition) (b : Machine) (h : Since) (f : FitsMachine b) (r : ℕ) w
         low : b.regs.r.r6.lo ≡ a % 256
         low = omega (arith, is, o.entry)
 
-    no_stop : (a : ℕ) → a ≡ at_shift7 + 6 * (7 - k) → is_event (code (quick e)) (loaded (word_of a)) ≡ false
-    no_stop a is = rw (ne_eqb (value (word_of a)) at_halt (λ z. omega (arith, z, is))) refl
+    no_stop : (a : ℕ) → a ≡ AT_SHIFT7 + 6 * (7 - k) → is_event (code (quick e)) (loaded (word_of a)) ≡ false
+    no_stop a is = rw (ne_eqb (value (word_of a)) AT_HALT (λ z. omega (arith, z, is))) refl
 
     pub row_byte_comes : h.spent ≡ 198 + aim_time e (now h) + edge_time e (now h) + rows_time (now h) r
         → RunsBlock (quick e) (calm_pieces (quick e)) (OfSprite (RowByte r)) b h
     row_byte_comes spent = go (cases_eq k 0)
       where
-        steady : AllGood (code (quick e)) (calm_top e) 7 (on_3 at_row_byte b)
+        steady : AllGood (code (quick e)) (calm_top e) 7 (on_3 AT_ROW_BYTE b)
         steady = omega (arith, o.holds.stack, stack_top_is e, memory_end_is e, page_fits e, o.rd, readable)
 
         go : (k ≡ 0) ⊎ (k ≡ 0 → ⊥) → RunsBlock (quick e) (calm_pieces (quick e)) (OfSprite (RowByte r)) b h
         go (inl z) =
-            straight (OfSprite (RowByte r)) o.holds (on_3 at_row_byte b) (is_on_3 at_row_byte b o.p o.r3) (loaded (word_of at_shifted)) steady
-            (entered_at at_shifted (omega (arith, z)))
+            straight (OfSprite (RowByte r)) o.holds (on_3 AT_ROW_BYTE b) (is_on_3 AT_ROW_BYTE b o.p o.r3) (loaded (word_of AT_SHIFTED)) steady
+            (entered_at AT_SHIFTED (omega (arith, z)))
             (λ h' g. to_sprite (quick e) g _ refl (Shifted r) tt
-            (goes_on at_shifted, inside, subst (λ j. Shifting r j (loaded (word_of at_shifted)) (now h)) z (none_yet at_shifted))
+            (goes_on AT_SHIFTED, inside, subst (λ j. Shifting r j (loaded (word_of AT_SHIFTED)) (now h)) z (none_yet AT_SHIFTED))
             (omega (arith, spent, g.spent, z)))
         go (inr z) =
-            straight (OfSprite (RowByte r)) o.holds (on_3 at_row_byte b) (is_on_3 at_row_byte b o.p o.r3)
-            (loaded (word_of (at_shift7 + 6 * (7 - k)))) steady (entered_at (at_shift7 + 6 * (7 - k)) refl)
-            (λ h' g. to_sprite (quick e) g _ (no_stop (at_shift7 + 6 * (7 - k)) refl) (Shift r k) tt
-            (goes_on (at_shift7 + 6 * (7 - k)), inside, none_yet (at_shift7 + 6 * (7 - k)), omega (arith, z), omega arith)
+            straight (OfSprite (RowByte r)) o.holds (on_3 AT_ROW_BYTE b) (is_on_3 AT_ROW_BYTE b o.p o.r3)
+            (loaded (word_of (AT_SHIFT7 + 6 * (7 - k)))) steady (entered_at (AT_SHIFT7 + 6 * (7 - k)) refl)
+            (λ h' g. to_sprite (quick e) g _ (no_stop (AT_SHIFT7 + 6 * (7 - k)) refl) (Shift r k) tt
+            (goes_on (AT_SHIFT7 + 6 * (7 - k)), inside, none_yet (AT_SHIFT7 + 6 * (7 - k)), omega (arith, z), omega arith)
             (omega (arith, spent, g.spent)))
 
   -- ---- a shift
@@ -219,8 +211,8 @@ module _ (e : Edition) (b : Machine) (h : Since) (f : FitsMachine b) (r : ℕ) w
         };
       }
 
-  module _ (j : ℕ) (o : Preparing (quick e) (at_shift7 + 6 * (7 - suc j)) r r (r + 1) b (now h)) (inside : r < rows) (shifts : Shifting r (suc j) b (now h)) (few : suc j ≤ k) (spent : h.spent ≡ 212 + aim_time e (now h) + edge_time e (now h) + rows_time (now h) r + 12 * (k - suc j)) where
-    one_less : Shifting r j (halved at_shifted) (now h)
+  module _ (j : ℕ) (o : Preparing (quick e) (AT_SHIFT7 + 6 * (7 - suc j)) r r (r + 1) b (now h)) (inside : r < rows) (shifts : Shifting r (suc j) b (now h)) (few : suc j ≤ k) (spent : h.spent ≡ 212 + aim_time e (now h) + edge_time e (now h) + rows_time (now h) r + 12 * (k - suc j)) where
+    one_less : Shifting r j (halved AT_SHIFTED) (now h)
     one_less = half ∙ ap (λ m. m / 2 ^ 1) shifts ∙ shr-shr (byte_of * 256) (k - suc j) 1 ∙ ap (λ z. byte_of * 256 / 2 ^ z) fewer
       where
         half : hi / 2 * 256 + (lo / 2 + 128 * (hi % 2)) ≡ (hi * 256 + lo) / 2 ^ 1
@@ -247,32 +239,32 @@ module _ (e : Edition) (b : Machine) (h : Since) (f : FitsMachine b) (r : ℕ) w
         }
 
     -- where a shift is computed
-    shifting : AllGood (code (quick e)) (calm_top e) 6 (on_3 (at_shift7 + 6 * (7 - suc j)) b)
-        → quicks (code (quick e)) 6 (on_3 (at_shift7 + 6 * (7 - suc j)) b) ≡ halved (at_shift7 + 6 * (7 - j))
-        → is_event (code (quick e)) (halved (at_shift7 + 6 * (7 - j))) ≡ false
+    shifting : AllGood (code (quick e)) (calm_top e) 6 (on_3 (AT_SHIFT7 + 6 * (7 - suc j)) b)
+        → quicks (code (quick e)) 6 (on_3 (AT_SHIFT7 + 6 * (7 - suc j)) b) ≡ halved (AT_SHIFT7 + 6 * (7 - j))
+        → is_event (code (quick e)) (halved (AT_SHIFT7 + 6 * (7 - j))) ≡ false
         → RunsBlock (quick e) (calm_pieces (quick e)) (OfSprite (Shift r (suc j))) b h
     shifting good runs calm =
-        straight (OfSprite (Shift r (suc j))) o.holds (on_3 (at_shift7 + 6 * (7 - suc j)) b) (is_on_3 (at_shift7 + 6 * (7 - suc j)) b o.p o.r3)
-        (halved (at_shift7 + 6 * (7 - j))) good runs
+        straight (OfSprite (Shift r (suc j))) o.holds (on_3 (AT_SHIFT7 + 6 * (7 - suc j)) b) (is_on_3 (AT_SHIFT7 + 6 * (7 - suc j)) b o.p o.r3)
+        (halved (AT_SHIFT7 + 6 * (7 - j))) good runs
         (λ h' g. go (cases_eq j 0) h' g)
       where
-        go : (j ≡ 0) ⊎ (j ≡ 0 → ⊥) → (h' : Since) → Grows h 6 0 h' → Ends (quick e) (calm_pieces (quick e)) (halved (at_shift7 + 6 * (7 - j))) h'
+        go : (j ≡ 0) ⊎ (j ≡ 0 → ⊥) → (h' : Since) → Grows h 6 0 h' → Ends (quick e) (calm_pieces (quick e)) (halved (AT_SHIFT7 + 6 * (7 - j))) h'
         go (inl z) h' g =
             to_sprite (quick e) g _ calm (Shifted r) tt (
-              subst (λ i. Preparing (quick e) at_shifted r r (r + 1) (halved i)
-                  (now h)) last (moves_on at_shifted),
+              subst (λ i. Preparing (quick e) AT_SHIFTED r r (r + 1) (halved i)
+                  (now h)) last (moves_on AT_SHIFTED),
               inside,
-              subst (λ i. Shifting r i (halved at_shifted) (now h)) z one_less,
+              subst (λ i. Shifting r i (halved AT_SHIFTED) (now h)) z one_less,
             )
             (omega (arith, spent, g.spent, z, few))
           where
-            last : at_shifted ≡ at_shift7 + 6 * (7 - j)
+            last : AT_SHIFTED ≡ AT_SHIFT7 + 6 * (7 - j)
             last = omega (arith, z)
         go (inr z) h' g =
-            to_sprite (quick e) g _ calm (Shift r j) tt (moves_on (at_shift7 + 6 * (7 - j)), inside, one_less, omega (arith, z), omega (arith, few))
+            to_sprite (quick e) g _ calm (Shift r j) tt (moves_on (AT_SHIFT7 + 6 * (7 - j)), inside, one_less, omega (arith, z), omega (arith, few))
             (omega (arith, spent, g.spent, few))
 
-  pub shift_comes : (j : ℕ) → Preparing (quick e) (at_shift7 + 6 * (7 - j)) r r (r + 1) b (now h) → r < rows → Shifting r j b (now h) → 0 < j → j ≤ k
+  pub shift_comes : (j : ℕ) → Preparing (quick e) (AT_SHIFT7 + 6 * (7 - j)) r r (r + 1) b (now h) → r < rows → Shifting r j b (now h) → 0 < j → j ≤ k
       → h.spent ≡ 212 + aim_time e (now h) + edge_time e (now h) + rows_time (now h) r + 12 * (k - j)
       → RunsBlock (quick e) (calm_pieces (quick e)) (OfSprite (Shift r j)) b h
   shift_comes zero o inside s some few spent = absurd (omega (arith, some))
@@ -294,9 +286,9 @@ module _ (e : Edition) (b : Machine) (h : Since) (f : FitsMachine b) (r : ℕ) w
   last_column = bit_xor (bit_and b.regs.r.rb.lo 7) 7
 
   abbrev stored : Word → Machine
-  stored = on_at (quicks (code (quick e)) 7 (preparing e at_shifted (r + r) b))
+  stored = on_at (quicks (code (quick e)) 7 (preparing e AT_SHIFTED (r + r) b))
 
-  module _ (o : Preparing (quick e) at_shifted r r (r + 1) b (now h)) (inside : r < rows) (shifts : Shifting r 0 b (now h)) where
+  module _ (o : Preparing (quick e) AT_SHIFTED r r (r + 1) b (now h)) (inside : r < rows) (shifts : Shifting r 0 b (now h)) where
     word_is : hi * 256 + lo ≡ shifted (column (now h)) byte_of
     word_is = shifts ∙ ap (λ z. byte_of * 256 / 2 ^ z) all
       where
@@ -363,18 +355,18 @@ module _ (e : Edition) (b : Machine) (h : Since) (f : FitsMachine b) (r : ℕ) w
     pub shifted_comes : h.spent ≡ 212 + aim_time e (now h) + edge_time e (now h) + rows_time (now h) r + 12 * k
         → RunsBlock (quick e) (calm_pieces (quick e)) (OfSprite (Shifted r)) b h
     shifted_comes spent =
-        forks (OfSprite (Shifted r)) o.holds (preparing e at_shifted (r + r) b) (is_preparing o) stored (last_column == 0) at_row_store at_row_right
+        forks (OfSprite (Shifted r)) o.holds (preparing e AT_SHIFTED (r + r) b) (is_preparing o) stored (last_column == 0) AT_ROW_STORE AT_ROW_RIGHT
         (omega (arith, o.holds.stack, stack_top_is e)) refl
-        (λ z h' g. to_sprite (quick e) g _ refl (RowStore r) tt (goes_left at_row_store, inside, right_none z)
+        (λ z h' g. to_sprite (quick e) g _ refl (RowStore r) tt (goes_left AT_ROW_STORE, inside, right_none z)
         (omega (arith, spent, g.spent, row_last (now h) (at_edge_of z))))
-        (λ z h' g. to_sprite (quick e) g _ refl (RowRight r) tt (goes_left at_row_right, inside, right_is z, before_edge z)
+        (λ z h' g. to_sprite (quick e) g _ refl (RowRight r) tt (goes_left AT_ROW_RIGHT, inside, right_is z, before_edge z)
         (omega (arith, spent, g.spent)))
 
-  pub row_right_comes : Preparing (quick e) at_row_right (r + 1) r (r + 1) b (now h) → r < rows → lo ≡ right (column (now h)) byte_of
+  pub row_right_comes : Preparing (quick e) AT_ROW_RIGHT (r + 1) r (r + 1) b (now h) → r < rows → lo ≡ right (column (now h)) byte_of
       → (column (now h) / 8 ≡ 7 → ⊥)
       → h.spent ≡ 226 + aim_time e (now h) + edge_time e (now h) + rows_time (now h) r + 12 * k
       → RunsBlock (quick e) (calm_pieces (quick e)) (OfSprite (RowRight r)) b h
-  row_right_comes o inside is before spent = straight (OfSprite (RowRight r)) o.holds (on_3 at_row_right b) (is_on_3 at_row_right b o.p o.r3) _ (omega arith) refl
+  row_right_comes o inside is before spent = straight (OfSprite (RowRight r)) o.holds (on_3 AT_ROW_RIGHT b) (is_on_3 AT_ROW_RIGHT b o.p o.r3) _ (omega arith) refl
       (λ h' g. to_sprite (quick e) g _ refl (RowStore r) tt (
         record {
           draws = o.draws;
@@ -400,11 +392,11 @@ module _ (e : Edition) (b : Machine) (h : Since) (f : FitsMachine b) (r : ℕ) w
   abbrev second : ℕ
   second = value (word (page_of e) (0xd0 + (r + 1 + r)))
 
-  pub row_store_comes : Preparing (quick e) at_row_store (r + 1) r (r + 1) b (now h) → r < rows → b.regs.d ≡ right (column (now h)) byte_of
+  pub row_store_comes : Preparing (quick e) AT_ROW_STORE (r + 1) r (r + 1) b (now h) → r < rows → b.regs.d ≡ right (column (now h)) byte_of
       → h.spent ≡ 188 + aim_time e (now h) + edge_time e (now h) + rows_time (now h) r + row_cycles (column (now h))
       → RunsBlock (quick e) (calm_pieces (quick e)) (OfSprite (RowStore r)) b h
   row_store_comes o inside is spent =
-      straight (OfSprite (RowStore r)) o.holds (preparing e at_row_store (r + 1 + r) b) (is_preparing o) ended (omega arith) refl
+      straight (OfSprite (RowStore r)) o.holds (preparing e AT_ROW_STORE (r + 1 + r) b) (is_preparing o) ended (omega arith) refl
       (λ h' g. to_sprite (quick e) g ended refl (Row (r + 1)) tt (
         record {
           draws = o.draws;
@@ -429,7 +421,7 @@ module _ (e : Edition) (b : Machine) (h : Since) (f : FitsMachine b) (r : ℕ) w
       ) (omega (arith, spent, g.spent, rows_next (now h) r)))
     where
       ended : Machine
-      ended = quicks (code (quick e)) 3 (preparing e at_row_store (r + 1 + r) b)
+      ended = quicks (code (quick e)) 3 (preparing e AT_ROW_STORE (r + 1 + r) b)
 
       second_there : second ≡ sprite_work e + 2 * r + 1
       second_there = omega (arith, work_is e)

@@ -1,37 +1,17 @@
 -- The screen in RAM: a byte of it is cleared.
-use Rattle.std.proofs.Common.{◌≡◌, ℕ, suc, ◌+◌, ◌-◌, ◌*◌, ◌/◌, ◌%◌, ◌<◌, ◌≤◌, ◌⊎◌, inl, inr, refl, sym, ◌∙◌, ap, subst, arith, lit<, List, length, ◌&&◌, Bool, true, false, nat_lt, slice_set, slice_range, get_or-set_same, get_or-set_other}
+use Rattle.std.proofs.Common.{◌≡◌, ℕ, suc, ◌+◌, ◌-◌, ◌*◌, ◌/◌, ◌%◌, ◌<◌, ◌⊎◌, inl, inr, refl, sym, ◌∙◌, ap, subst, arith, List, length, ◌&&◌, Bool, true, false, nat_lt, slice_set, slice_range, get_or-set_same, get_or-set_other}
 use Rattle.std.proofs.lemmas.Bool.{cases_order, lt-ltb, le-ltb, ltb-true, and_parts, and_right, cases_Bool}
 use Rattle.std.proofs.lemmas.Nat.Bits.{bit_at-zero}
 use Rattle.machine.specs.Memory.{written}
 use Rattle.chip8_lang.specs.declared.view.Edition.{Edition}
-use Rattle.chip8_lang.specs.declared.view.Edition.TheVariants.{Usual, Tall}
 use Rattle.chip8_lang.specs.Editions.{screen_start, rows_of}
 use Rattle.chip8_lang.specs.Places.{pixels}
 use Rattle.chip8_lang.specs.Screen.{Pixels}
 use Rattle.chip8_lang.specs.State.{Lang}
 use Rattle.rom_law.specs.Holding.{Places, Holding}
-use Rattle.rom_law.proofs.Places.{range_length, screen_set}
-use Rattle.rom_rows.specs.Heads.{page_of}
+use Rattle.rom_law.proofs.Places.{range_length, screen_set, screen_ends}
 use Rattle.rom_rows.specs.SpriteBlocks.{first_bytes, cleared_to}
 use Rattle.rom_sprite.proofs.Rom.{quick}
-
--- ---- where the screen lies
-
-pub screen_is : (e : Edition) → screen_start e ≡ page_of e * 256 + 256
-screen_is Usual = refl
-screen_is Tall = refl
-
-pub screen_ends : (e : Edition) → screen_start e + 8 * rows_of e ≡ 0x1000
-screen_ends Usual = refl
-screen_ends Tall = refl
-
-pub some_rows : (e : Edition) → 0 < rows_of e
-some_rows Usual = lit< tt
-some_rows Tall = lit< tt
-
-pub few_rows : (e : Edition) → rows_of e ≤ 64
-few_rows Usual = omega arith
-few_rows Tall = omega arith
 
 -- ---- a byte is cleared
 

@@ -1,5 +1,5 @@
 -- What is proved of 00E0 and DXYN.
-use Rattle.std.specs.Prelude.{◌≡◌, ℕ, List, [], ◌∷◌}
+use Rattle.std.specs.Prelude.{◌≡◌, ℕ, List}
 use Rattle.machine.specs.Instruction.{at}
 use Rattle.machine.specs.Board.{Machine}
 use Rattle.chip8_lang.specs.declared.view.Edition.{Edition}
@@ -10,7 +10,7 @@ use Rattle.rom_rows.specs.SpriteBlocks.{SpriteBlock, SpritePlace, sprite_place_d
 use Rattle.rom_rows.specs.Table.{At, BlockRows, AwakeRows, TickRows}
 use Rattle.rom_rows.specs.Table.Block.{OfSprite}
 use Rattle.rom_rows.specs.Table.Place.{AtSprite}
-use Rattle.rom_rows.specs.Addresses.{RunsAt, Covers}
+use Rattle.rom_rows.specs.Addresses.{RunsAt, AllInBlocks}
 
 -- every main move keeps the rows
 abbrev pub SpriteRows : (Edition → List ℕ) → Type 0
@@ -35,4 +35,4 @@ SpritePlaceAddresses rom =
 
 -- each instruction of that code is in some block or at some place
 abbrev pub SpriteCovers : Type 0
-SpriteCovers = Covers Sprite
+SpriteCovers = AllInBlocks Sprite

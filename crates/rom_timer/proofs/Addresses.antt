@@ -4,7 +4,7 @@ use Rattle.machine.specs.Bank.{word_of, value}
 use Rattle.machine.specs.Instruction.{at}
 use Rattle.machine.specs.Board.{Machine}
 use Rattle.chip8_lang.specs.declared.view.Edition.{Edition}
-use Rattle.chip8_image.specs.Labels.{at_set_delay_end, at_set_sound_end}
+use Rattle.chip8_image.specs.declared.image.labels.TheConstants.{AT_SET_DELAY_END, AT_SET_SOUND_END}
 use Rattle.chip8_image.specs.declared.parts.Part.TheVariants.{Timer}
 use Rattle.rom_law.specs.Program.{Program}
 use Rattle.rom_law.specs.Rows.{Since, now}
@@ -27,9 +27,9 @@ timer_follows e Random b h o = record { same = _; is = is_entered o.0.entered; f
 timer_follows e RandomMix b h o = record { same = _; is = is_entered o.0.0.entered; follows = refl }
 timer_follows e GetDelayPut b h o = record { same = _; is = is_entered o.0.0.entered; follows = refl }
 timer_follows e SetDelay b h o = record { same = _; is = is_entered o.0.0.entered; follows = refl }
-timer_follows e SetDelayEnd b h o = record { same = on_3 at_set_delay_end b; is = is_on_3 at_set_delay_end b o.0.done.p o.0.done.r3; follows = refl }
+timer_follows e SetDelayEnd b h o = record { same = on_3 AT_SET_DELAY_END b; is = is_on_3 AT_SET_DELAY_END b o.0.done.p o.0.done.r3; follows = refl }
 timer_follows e SetSound b h o = record { same = _; is = is_entered o.0.0.entered; follows = refl }
-timer_follows e SetSoundEnd b h o = record { same = on_3 at_set_sound_end b; is = is_on_3 at_set_sound_end b o.0.done.p o.0.done.r3; follows = refl }
+timer_follows e SetSoundEnd b h o = record { same = on_3 AT_SET_SOUND_END b; is = is_on_3 AT_SET_SOUND_END b o.0.done.p o.0.done.r3; follows = refl }
 
 pub addresses : TimerAddresses timer_rom
 addresses e l = runs_at e (both_is e) (both_fits e) (OfTimer l) (timer_block e l) (timer_follows e l)

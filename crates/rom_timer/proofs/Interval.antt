@@ -14,7 +14,7 @@ use Rattle.chip8_lang.specs.State.{Lang}
 use Rattle.chip8_lang.specs.Between.{ticks_between, keys_from, keys_between}
 use Rattle.chip8_lang.proofs.Ticks.{ticks_counted}
 use Rattle.rom_law.specs.Holding.{Places, places, Holding}
-use Rattle.rom_law.specs.Program.{Program, Keeps}
+use Rattle.rom_law.specs.Program.{Program, KeepsState}
 use Rattle.rom_law.specs.Rows.{Embeds}
 use Rattle.rom_law.proofs.Language.{keys_from_get, last_or_before}
 use Rattle.rom_law.proofs.Places.{holding, stack_most, stack_below}
@@ -44,7 +44,7 @@ module _ {x : Program} {p : Places} {s : Lang} (o : Holding x p s) where
   in_stack = omega (arith, o.stack)
 
 -- where a language state lies in the machine in the cycle of an interrupt, the routine comes to a tick
-pub keeps_interrupted : (e : Edition) (m : ℕ) (b : Machine) (s : Lang) → FitsMachine b → Keeps (vip e) b s → b.cycle ≡ interrupt_at m → IsInterrupted e m b
+pub keeps_interrupted : (e : Edition) (m : ℕ) (b : Machine) (s : Lang) → FitsMachine b → KeepsState (vip e) b s → b.cycle ≡ interrupt_at m → IsInterrupted e m b
 keeps_interrupted e m b s f k c =
     record {
       cycle = c;

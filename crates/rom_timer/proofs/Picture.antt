@@ -9,13 +9,12 @@ use Rattle.machine.specs.Run.{states, after_moves, run_to}
 use Rattle.machine.specs.Pictures.{interrupt_at, window_end, is_dma, is_dma_in, filled, line_bytes, lines_from, picture_of, is_within, is_shown}
 use Rattle.machine.proofs.Runs.{cycle-move, later-move}
 use Rattle.chip8_lang.specs.declared.view.Edition.{Edition}
-use Rattle.chip8_lang.specs.declared.view.Edition.TheVariants.{Usual, Tall}
 use Rattle.chip8_lang.specs.Editions.{screen_start, rows_of, lines_of}
 use Rattle.chip8_lang.specs.Screen.{is_set}
 use Rattle.chip8_lang.specs.Places.{state_of, pixels}
 use Rattle.rom_law.specs.Pictures.{dot, IsLine, ShowsScreen}
 use Rattle.rom_law.proofs.Ahead.{behind_moves, later_cycle, all_in_run}
-use Rattle.rom_law.proofs.Places.{range_get, range_length}
+use Rattle.rom_law.proofs.Places.{range_get, range_length, row_inside}
 use Rattle.rom_timer.specs.Routine.{IsInterrupted, IsTick, routine_moves}
 use Rattle.rom_timer.specs.Scan.{fetched, row_start, RunPicture}
 use Rattle.rom_timer.proofs.Fetched.{states_join, fetched_append, none_fetched}
@@ -48,10 +47,6 @@ range_fits : (a : ℕ) (ram : List ℕ) → ((j : ℕ) → slice_index ram j < 2
 range_fits a ram fit i l = subst (λ z. z < 256) (sym (range_get a (a + 8) ram i (omega (arith, l)))) (fit (a + i))
 
 -- ---- the dots of eight bytes of the screen
-
-row_inside : (e : Edition) (k : ℕ) → k < 128 → k / lines_of e < rows_of e
-row_inside Usual k h = omega arith
-row_inside Tall k h = omega arith
 
 module _ (e : Edition) (ram : List ℕ) (k : ℕ) (some : k < 128) where
   dots : (x : ℕ) → x < 64 → dot (slice_range ram (row_start e k) (row_start e k + 8)) x

@@ -11,9 +11,9 @@ use Rattle.chip8_lang.specs.declared.view.Edition.{Edition}
 use Rattle.chip8_lang.specs.Editions.{random_cell}
 use Rattle.chip8_lang.specs.State.{Lang, instr_at}
 use Rattle.chip8_lang.specs.Step.{next, random, stop_of}
-use Rattle.chip8_image.specs.Labels.{at_random, at_random_count, at_random_mix}
+use Rattle.chip8_image.specs.declared.image.labels.TheConstants.{AT_RANDOM, AT_RANDOM_COUNT, AT_RANDOM_MIX}
 use Rattle.rom_law.specs.Holding.{Places, places, Holding}
-use Rattle.rom_law.specs.Moments.{Meets}
+use Rattle.rom_law.specs.Moments.{TicksBefore}
 use Rattle.rom_law.specs.Rows.{Since, now}
 use Rattle.rom_law.specs.Program.{code}
 use Rattle.rom_law.proofs.Places.{read_is, v_set, random_set}
@@ -41,7 +41,7 @@ module _ (e : Edition) (b : Machine) (h : Since) (f : FitsMachine b) where
   abbrev low : ℕ
   low = low_byte (now h)
 
-  pub random_comes : Enters (quick e) at_random 12 b (now h) → h.spent ≡ 80 → RunsBlock (quick e) (calm_pieces (quick e)) (OfTimer Random) b h
+  pub random_comes : Enters (quick e) AT_RANDOM 12 b (now h) → h.spent ≡ 80 → RunsBlock (quick e) (calm_pieces (quick e)) (OfTimer Random) b h
   random_comes o spent = routine (OfTimer Random) o.entered _ (omega arith) refl
       (λ h' g. to_timer_place (quick e) g _ refl RandomCount (
         record {
@@ -73,9 +73,9 @@ module _ (e : Edition) (b : Machine) (h : Since) (f : FitsMachine b) where
         regs = record (entered e a high low b).regs { x = m.x i; r = record (entered e a high low b).regs.r { rd = m.rd i } };
       })
 
-  pub random_count_holds : Enters (quick e) at_random_count 12 b (now h) → Mixes b → At (quick e) (AtTimer RandomCount) b h → h.spent ≡ 90
+  pub random_count_holds : Enters (quick e) AT_RANDOM_COUNT 12 b (now h) → Mixes b → At (quick e) (AtTimer RandomCount) b h → h.spent ≡ 90
       → RunsPlace (quick e) (calm_pieces (quick e)) (AtTimer RandomCount) b h
-  random_count_holds o m at spent = alone (AtTimer RandomCount) f at o.entered.holds (mixing at_random_count) (is_mixing o.entered m) refl refl refl
+  random_count_holds o m at spent = alone (AtTimer RandomCount) f at o.entered.holds (mixing AT_RANDOM_COUNT) (is_mixing o.entered m) refl refl refl
       (λ u. to_timer (quick e) (one_more u h) _ refl RandomMix (
         record {
           entered = record {
@@ -99,10 +99,10 @@ module _ (e : Edition) (b : Machine) (h : Since) (f : FitsMachine b) where
 
   -- ---- the next random byte
 
-  random_is : Enters (quick e) at_random_mix 12 b (now h) → instr_at (now h) ≡ RandomByte (high % 16) low
+  random_is : Enters (quick e) AT_RANDOM_MIX 12 b (now h) → instr_at (now h) ≡ RandomByte (high % 16) low
   random_is o = rw o.digit refl
 
-  random_runs : Enters (quick e) at_random_mix 12 b (now h) → stop_of e (now h) ≡ None
+  random_runs : Enters (quick e) AT_RANDOM_MIX 12 b (now h) → stop_of e (now h) ≡ None
   random_runs o = rw (o.entered.inside, o.digit) refl
 
   abbrev old : ℕ
@@ -111,7 +111,7 @@ module _ (e : Edition) (b : Machine) (h : Since) (f : FitsMachine b) where
   abbrev mixed : ℕ
   mixed = ((old + (old + (old + (old + (old + b.regs.d) % 256) % 256) % 256) % 256) % 256 + 113) % 256
 
-  mixed_is : Enters (quick e) at_random_mix 12 b (now h) → b.regs.d ≡ (now h).n % 256 → mixed ≡ random (now h)
+  mixed_is : Enters (quick e) AT_RANDOM_MIX 12 b (now h) → b.regs.d ≡ (now h).n % 256 → mixed ≡ random (now h)
   mixed_is o d = omega (arith, d, read_is o.entered.holds random_cell (omega arith), ap (λ (z : Lang). z.b) o.entered.holds.is)
 
   -- RAM with it
@@ -121,7 +121,7 @@ module _ (e : Edition) (b : Machine) (h : Since) (f : FitsMachine b) where
   abbrev byte : ℕ
   byte = bit_and low (read (both e) b.latch stored random_cell)
 
-  byte_is : Enters (quick e) at_random_mix 12 b (now h) → b.regs.d ≡ (now h).n % 256 → byte ≡ bit_and (random (now h)) low
+  byte_is : Enters (quick e) AT_RANDOM_MIX 12 b (now h) → b.regs.d ≡ (now h).n % 256 → byte ≡ bit_and (random (now h)) low
   byte_is o d =
       ap (bit_and low) (read_is (random_set o.entered.holds mixed) random_cell (omega arith)
       ∙ ap (λ (z : Lang). z.b) (random_set o.entered.holds mixed).is ∙ mixed_is o d) ∙ and_comm low (random (now h))
@@ -129,13 +129,13 @@ module _ (e : Edition) (b : Machine) (h : Since) (f : FitsMachine b) where
   abbrev put : Places
   put = record (places b) { ram = written b.latch stored (value (word (page_of e) (240 + high % 16))) byte }
 
-  pub random_mix_comes : Enters (quick e) at_random_mix 12 b (now h) → Mixes b → b.regs.d ≡ (now h).n % 256 → h.spent ≡ 92 → Meets h.moments 90 h.ticks
+  pub random_mix_comes : Enters (quick e) AT_RANDOM_MIX 12 b (now h) → Mixes b → b.regs.d ≡ (now h).n % 256 → h.spent ≡ 92 → TicksBefore h.moments 90 h.ticks
       → RunsBlock (quick e) (calm_pieces (quick e)) (OfTimer RandomMix) b h
   random_mix_comes o m d spent met = record {
     runs = ready o.entered.holds;
     awake = o.entered.holds.awake;
     some = omega arith;
-    end = quicks (code (quick e)) 11 (mixing at_random_mix);
+    end = quicks (code (quick e)) 11 (mixing AT_RANDOM_MIX);
     reaches =
         reaches_from (code (quick e)) (calm_top e) 11 b _ _ (is_mixing o.entered m)
         (reaches_in (code (quick e)) (calm_top e) 11 _ _

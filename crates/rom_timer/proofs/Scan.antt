@@ -1,6 +1,6 @@
 -- Each line of the window gets the eight bytes of its row of the screen.
-use Rattle.std.proofs.Common.{◌≡◌, ℕ, ◌+◌, ◌-◌, ◌*◌, ◌/◌, ◌%◌, ◌<◌, ◌≤◌, ◌⊎◌, inl, inr, ◌∙◌, ap, ap₂, subst, arith, Bool, true, false, cond, nat_lt, [], ◌++◌, length, slice_index, slice_range}
-use Rattle.std.proofs.lemmas.Bool.{cases_eq, cases_lt, lt-ltb, le-ltb, ne_eqb}
+use Rattle.std.proofs.Common.{◌≡◌, ℕ, ◌+◌, ◌-◌, ◌*◌, ◌/◌, ◌%◌, ◌<◌, ◌≤◌, ◌⊎◌, inl, inr, ◌∙◌, ap, ap₂, subst, arith, [], ◌++◌, length, slice_index, slice_range}
+use Rattle.std.proofs.lemmas.Bool.{cases_eq, ne_eqb}
 use Rattle.std.proofs.lemmas.List.{append-nil}
 use Rattle.machine.specs.Bank.{word_of}
 use Rattle.machine.specs.Board.{Machine}
@@ -8,16 +8,15 @@ use Rattle.machine.specs.Schedule.{IsFree}
 use Rattle.machine.specs.Keys.{Keys}
 use Rattle.machine.specs.Run.{states, after_moves}
 use Rattle.chip8_lang.specs.declared.view.Edition.{Edition}
-use Rattle.chip8_lang.specs.declared.view.Edition.TheVariants.{Usual, Tall}
 use Rattle.chip8_lang.specs.Editions.{memory_end, screen_start, lines_of}
-use Rattle.chip8_image.specs.Labels.{at_scan}
+use Rattle.chip8_image.specs.declared.image.labels.TheConstants.{AT_SCAN}
 use Rattle.rom_law.specs.Program.{code}
-use Rattle.rom_law.proofs.Places.{variables_below, range_length}
+use Rattle.rom_law.proofs.Places.{variables_below, range_length, screen_ends, row_inside}
 use Rattle.rom_timer.proofs.Rom.{both, both_is, quick}
 use Rattle.rom_timer.specs.Routine.{IsInterrupted, routine_moves}
 use Rattle.rom_timer.specs.Scan.{fetched, row_start, RunScan}
 use Rattle.rom_timer.proofs.Board.{timed, at_byte, serves_join, moves_more, dmas}
-use Rattle.rom_timer.proofs.Window.{scanning, shown, next, shown_usual, shown_tall, Begins, begins, early, late, wanted}
+use Rattle.rom_timer.proofs.Window.{scanning, Begins, begins, early, late, wanted, row_of}
 use Rattle.rom_timer.proofs.Serving.{taken, entered, opens}
 use Rattle.rom_timer.proofs.Fetched.{states_join, fetched_append, none_fetched, IsPast, bytes_fetched}
 use Rattle.rom_timer.proofs.Counted.{counted}
@@ -26,21 +25,8 @@ use Rattle.rom_timer.specs.Code.{timer_rom}
 
 -- ---- the row of a line
 
-row_of : (e : Edition) (k : ℕ) → cond (nat_lt (k % 4) 2) (shown e (k / 4)) (shown e (k / 4) + next e) ≡ screen_start e + 8 * (k / lines_of e)
-row_of Usual k = go (nat_lt (k % 4) 2)
-  where
-    go : (t : Bool) → cond t (shown Usual (k / 4)) (shown Usual (k / 4) + 0) ≡ 0xf00 + 8 * (k / 4)
-    go true = shown_usual (k / 4)
-    go false = omega (arith, shown_usual (k / 4))
-row_of Tall k = go (cases_lt (k % 4) 2)
-  where
-    go : (k % 4 < 2) ⊎ (2 ≤ k % 4) → cond (nat_lt (k % 4) 2) (shown Tall (k / 4)) (shown Tall (k / 4) + 8) ≡ 0xe00 + 8 * (k / 2)
-    go (inl h) = rw (lt-ltb (k % 4) 2 h) (omega (arith, shown_tall (k / 4)))
-    go (inr h) = rw (le-ltb (k % 4) 2 h) (omega (arith, shown_tall (k / 4)))
-
 pub row_fits : (e : Edition) (k : ℕ) → k < 128 → screen_start e + 8 * (k / lines_of e) + 8 ≤ 0x1000
-row_fits Usual k h = omega arith
-row_fits Tall k h = omega arith
+row_fits e k h = omega (arith, screen_ends e, row_inside e k h)
 
 module _ (e : Edition) (m : ℕ) (b : Machine) (held : ℕ → Keys) (o : IsInterrupted e m b) (k : ℕ) (some : k < 128) where
   abbrev address : ℕ
@@ -52,7 +38,7 @@ module _ (e : Edition) (m : ℕ) (b : Machine) (held : ℕ → Keys) (o : IsInte
   top : (262 * m + 80) % 262 ≡ 80
   top = omega arith
 
-  begun : Begins e held (entered b) (timed (14 * (262 * m + 80)) (scanning (entered b) at_scan (screen_start e) 0)) line address
+  begun : Begins e held (entered b) (timed (14 * (262 * m + 80)) (scanning (entered b) AT_SCAN (screen_start e) 0)) line address
   begun = begins e held (entered b) (262 * m + 80) 0 k address top some (row_of e k)
 
   -- the moves before the DMA cycles of the line, and the machine there

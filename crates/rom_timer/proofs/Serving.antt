@@ -9,14 +9,13 @@ use Rattle.machine.specs.Board.{Machine}
 use Rattle.machine.specs.Keys.{Keys}
 use Rattle.machine.specs.Ranges.{FitsWord}
 use Rattle.chip8_lang.specs.declared.view.Edition.{Edition}
-use Rattle.chip8_lang.specs.declared.view.Edition.TheVariants.{Usual, Tall}
 use Rattle.chip8_lang.specs.Editions.{screen_start}
-use Rattle.chip8_image.specs.Labels.{at_entry, at_scan, at_delay, at_delay_down, at_delay_none, at_sound, at_sound_down, at_sound_none, at_resume}
+use Rattle.chip8_image.specs.declared.image.labels.TheConstants.{AT_ENTRY, AT_SCAN, AT_DELAY, AT_DELAY_DOWN, AT_DELAY_NONE, AT_SOUND, AT_SOUND_DOWN, AT_SOUND_NONE, AT_RESUME}
 use Rattle.rom_law.specs.Program.{code}
-use Rattle.rom_rows.specs.Heads.{by_edition}
 use Rattle.rom_timer.proofs.Rom.{both, quick}
 use Rattle.rom_timer.proofs.Board.{timed, at_byte, Serves, serves_join, serves_to, instructions}
 use Rattle.rom_timer.proofs.Window.{scanning}
+use Rattle.rom_rows.proofs.Bytes.{screen_word}
 
 -- ---- no DMA cycle is wanted outside of the window
 
@@ -33,7 +32,7 @@ abbrev pub taken : Machine → Machine
 taken b =
     record b {
       regs = record b.regs {
-        r = record b.regs.r { r1 = word_of at_entry };
+        r = record b.regs.r { r1 = word_of AT_ENTRY };
         t = b.regs.x * 16 + b.regs.p;
         p = 1;
         x = 2;
@@ -53,16 +52,12 @@ entered b =
       latch = false;
     }
 
-screen_is : (e : Edition) → word (by_edition e 0x0f 0x0e) 0 ≡ word_of (screen_start e)
-screen_is Usual = refl
-screen_is Tall = refl
-
 module _ (e : Edition) (held : ℕ → Keys) where
   pub opens : (m : ℕ) (b : Machine)
       → Serves (code (quick e)) held 13 (timed (3668 * m + 1093) (taken b))
-      (timed (14 * (262 * m + 80)) (scanning (entered b) at_scan (screen_start e) 0))
+      (timed (14 * (262 * m + 80)) (scanning (entered b) AT_SCAN (screen_start e) 0))
   opens m b =
-      serves_to (code (quick e)) held (ap₂ timed time (ap (λ w. at_byte w (scanning (entered b) at_scan (screen_start e) 0)) (screen_is e)))
+      serves_to (code (quick e)) held (ap₂ timed time (ap (λ w. at_byte w (scanning (entered b) AT_SCAN (screen_start e) 0)) (screen_word e)))
       (instructions (code (quick e)) held 13 (3668 * m + 1093) (taken b) refl (λ u l h. before m u l (omega arith)))
     where
       time : 3668 * m + 1093 + 27 ≡ 14 * (262 * m + 80)
@@ -100,8 +95,8 @@ module _ (e : Edition) (held : ℕ → Keys) where
   pub record Delays (m : ℕ) (b : Machine) (d : ℕ) (rf r8 : Word) (q : Bool) : Type 0 where
     pub d' : ℕ
     pub f : ℕ
-    pub serves : Serves (code (quick e)) held 6 (timed (3668 * m + 2912) (serving b at_delay d rf r8 q))
-        (timed (3668 * m + 2924) (serving b at_sound d' (word rf.hi f) (word (r8.hi - 1) r8.lo) q))
+    pub serves : Serves (code (quick e)) held 6 (timed (3668 * m + 2912) (serving b AT_DELAY d rf r8 q))
+        (timed (3668 * m + 2924) (serving b AT_SOUND d' (word rf.hi f) (word (r8.hi - 1) r8.lo) q))
     pub fits : f < 256
 
   module _ (m : ℕ) (b : Machine) (d : ℕ) (rf r8 : Word) (q : Bool) (frf : FitsWord rf) (fr8 : FitsWord r8) where
@@ -113,12 +108,12 @@ module _ (e : Edition) (held : ℕ → Keys) where
           serves =
               serves_join (code (quick e)) held
               (serves_to (code (quick e)) held
-              (ap₂ timed time (ap (sets_pc (serving b at_delay r8.hi rf r8 q))
-              (test_0 r8.hi (word_of at_delay_none) (word_of at_delay_down) h)))
-              (instructions (code (quick e)) held 2 (3668 * m + 2912) (serving b at_delay d rf r8 q) refl
+              (ap₂ timed time (ap (sets_pc (serving b AT_DELAY r8.hi rf r8 q))
+              (test_0 r8.hi (word_of AT_DELAY_NONE) (word_of AT_DELAY_DOWN) h)))
+              (instructions (code (quick e)) held 2 (3668 * m + 2912) (serving b AT_DELAY d rf r8 q) refl
               (λ u l k. behind m u l (omega arith))))
-              (serves_to (code (quick e)) held (ap₂ timed time' (ap (λ z. serving b at_sound r8.hi rf (word z r8.lo) q) none))
-              (instructions (code (quick e)) held 4 (3668 * m + 2916) (serving b at_delay_none r8.hi rf r8 q) refl
+              (serves_to (code (quick e)) held (ap₂ timed time' (ap (λ z. serving b AT_SOUND r8.hi rf (word z r8.lo) q) none))
+              (instructions (code (quick e)) held 4 (3668 * m + 2916) (serving b AT_DELAY_NONE r8.hi rf r8 q) refl
               (λ u l k. behind m u (omega arith) (omega arith))));
           fits = frf.lo;
         }
@@ -140,12 +135,12 @@ module _ (e : Edition) (held : ℕ → Keys) where
           serves =
               serves_join (code (quick e)) held
               (serves_to (code (quick e)) held
-              (ap₂ timed time (ap (sets_pc (serving b at_delay r8.hi rf r8 q))
-              (test r8.hi (word_of at_delay_none) (word_of at_delay_down) h)))
-              (instructions (code (quick e)) held 2 (3668 * m + 2912) (serving b at_delay d rf r8 q) refl
+              (ap₂ timed time (ap (sets_pc (serving b AT_DELAY r8.hi rf r8 q))
+              (test r8.hi (word_of AT_DELAY_NONE) (word_of AT_DELAY_DOWN) h)))
+              (instructions (code (quick e)) held 2 (3668 * m + 2912) (serving b AT_DELAY d rf r8 q) refl
               (λ u l k. behind m u l (omega arith))))
-              (serves_to (code (quick e)) held (ap₂ timed time' (λ i. serving b at_sound (low i) (word (high i) (low i)) (word (low i) r8.lo) q))
-              (instructions (code (quick e)) held 4 (3668 * m + 2916) (serving b at_delay_down r8.hi rf r8 q) refl
+              (serves_to (code (quick e)) held (ap₂ timed time' (λ i. serving b AT_SOUND (low i) (word (high i) (low i)) (word (low i) r8.lo) q))
+              (instructions (code (quick e)) held 4 (3668 * m + 2916) (serving b AT_DELAY_DOWN r8.hi rf r8 q) refl
               (λ u l k. behind m u (omega arith) (omega arith))));
           fits = omega (arith, fr8.hi);
         }
@@ -172,18 +167,18 @@ module _ (e : Edition) (held : ℕ → Keys) where
     -- the sound timer
     abbrev pub Sounds : Type 0
     Sounds =
-        Serves (code (quick e)) held 5 (timed (3668 * m + 2924) (serving b at_sound d rf r8 q))
-        (timed (3668 * m + 2934) (serving b at_resume r8.lo rf (word r8.hi (r8.lo - 1)) (not (r8.lo == 0))))
+        Serves (code (quick e)) held 5 (timed (3668 * m + 2924) (serving b AT_SOUND d rf r8 q))
+        (timed (3668 * m + 2934) (serving b AT_RESUME r8.lo rf (word r8.hi (r8.lo - 1)) (not (r8.lo == 0))))
 
     sound_none : r8.lo ≡ 0 → Sounds
     sound_none h =
         serves_join (code (quick e)) held
         (serves_to (code (quick e)) held
-        (ap₂ timed time (ap (sets_pc (serving b at_sound r8.lo rf r8 q)) (test_0 r8.lo (word_of at_sound_none) (word_of at_sound_down) h)))
-        (instructions (code (quick e)) held 2 (3668 * m + 2924) (serving b at_sound d rf r8 q) refl
+        (ap₂ timed time (ap (sets_pc (serving b AT_SOUND r8.lo rf r8 q)) (test_0 r8.lo (word_of AT_SOUND_NONE) (word_of AT_SOUND_DOWN) h)))
+        (instructions (code (quick e)) held 2 (3668 * m + 2924) (serving b AT_SOUND d rf r8 q) refl
         (λ u l k. behind m u (omega arith) (omega arith))))
-        (serves_to (code (quick e)) held (ap₂ timed time' (λ i. serving b at_resume r8.lo rf (word r8.hi (none i)) (silent i)))
-        (instructions (code (quick e)) held 3 (3668 * m + 2928) (serving b at_sound_none r8.lo rf r8 q) refl
+        (serves_to (code (quick e)) held (ap₂ timed time' (λ i. serving b AT_RESUME r8.lo rf (word r8.hi (none i)) (silent i)))
+        (instructions (code (quick e)) held 3 (3668 * m + 2928) (serving b AT_SOUND_NONE r8.lo rf r8 q) refl
         (λ u l k. behind m u (omega arith) (omega arith))))
       where
         time : 3668 * m + 2924 + 4 ≡ 3668 * m + 2928
@@ -202,11 +197,11 @@ module _ (e : Edition) (held : ℕ → Keys) where
     sound_down h =
         serves_join (code (quick e)) held
         (serves_to (code (quick e)) held
-        (ap₂ timed time (ap (sets_pc (serving b at_sound r8.lo rf r8 q)) (test r8.lo (word_of at_sound_none) (word_of at_sound_down) h)))
-        (instructions (code (quick e)) held 2 (3668 * m + 2924) (serving b at_sound d rf r8 q) refl
+        (ap₂ timed time (ap (sets_pc (serving b AT_SOUND r8.lo rf r8 q)) (test r8.lo (word_of AT_SOUND_NONE) (word_of AT_SOUND_DOWN) h)))
+        (instructions (code (quick e)) held 2 (3668 * m + 2924) (serving b AT_SOUND d rf r8 q) refl
         (λ u l k. behind m u (omega arith) (omega arith))))
-        (serves_to (code (quick e)) held (ap₂ timed time' (λ i. serving b at_resume r8.lo rf (word (high i) (low i)) (sounds i)))
-        (instructions (code (quick e)) held 3 (3668 * m + 2928) (serving b at_sound_down r8.lo rf r8 q) refl
+        (serves_to (code (quick e)) held (ap₂ timed time' (λ i. serving b AT_RESUME r8.lo rf (word (high i) (low i)) (sounds i)))
+        (instructions (code (quick e)) held 3 (3668 * m + 2928) (serving b AT_SOUND_DOWN r8.lo rf r8 q) refl
         (λ u l k. behind m u (omega arith) (omega arith))))
       where
         time : 3668 * m + 2924 + 4 ≡ 3668 * m + 2928
@@ -236,7 +231,7 @@ module _ (e : Edition) (held : ℕ → Keys) where
   resumed b =
       record b {
         regs = record b.regs {
-          r = record b.regs.r { r1 = word_of at_entry; r2 = up (up b.regs.r.r2) };
+          r = record b.regs.r { r1 = word_of AT_ENTRY; r2 = up (up b.regs.r.r2) };
           d = read (both e) b.latch b.ram (value b.regs.r.r2);
           p = read (both e) b.latch b.ram (value (up b.regs.r.r2)) % 16;
           x = read (both e) b.latch b.ram (value (up b.regs.r.r2)) / 16;
@@ -245,11 +240,11 @@ module _ (e : Edition) (held : ℕ → Keys) where
       }
 
   pub resumes : (m : ℕ) (b : Machine) (d : ℕ) (rf r8 : Word) (q : Bool)
-      → Serves (code (quick e)) held 2 (timed (3668 * m + 2934) (serving b at_resume d rf r8 q))
-      (timed (3668 * m + 2938) (resumed (serving b at_resume d rf r8 q)))
+      → Serves (code (quick e)) held 2 (timed (3668 * m + 2934) (serving b AT_RESUME d rf r8 q))
+      (timed (3668 * m + 2938) (resumed (serving b AT_RESUME d rf r8 q)))
   resumes m b d rf r8 q =
-      serves_to (code (quick e)) held (ap (λ t. timed t (resumed (serving b at_resume d rf r8 q))) time)
-      (instructions (code (quick e)) held 2 (3668 * m + 2934) (serving b at_resume d rf r8 q) refl
+      serves_to (code (quick e)) held (ap (λ t. timed t (resumed (serving b AT_RESUME d rf r8 q))) time)
+      (instructions (code (quick e)) held 2 (3668 * m + 2934) (serving b AT_RESUME d rf r8 q) refl
       (λ u l k. behind m u (omega arith) (omega arith)))
     where
       time : 3668 * m + 2934 + 4 ≡ 3668 * m + 2938

@@ -1,5 +1,5 @@
 -- The interrupt routine is one timer tick.
-use Rattle.std.proofs.Common.{lit<, inl, inr, ◌⊎◌, ◌≡◌, ℕ, ◌+◌, ◌-◌, ◌*◌, ◌/◌, ◌%◌, ◌<◌, ◌≤◌, sym, ◌∙◌, ap, ap₂, subst, arith, false, not, List, slice_index, length}
+use Rattle.std.proofs.Common.{inl, inr, ◌⊎◌, ◌≡◌, ℕ, ◌+◌, ◌-◌, ◌*◌, ◌/◌, ◌%◌, ◌<◌, ◌≤◌, sym, ◌∙◌, ap, ap₂, subst, arith, false, not, List, slice_index, length}
 use Rattle.std.specs.Prelude.{◌==◌}
 use Rattle.machine.specs.Bank.{Word, word, word_of, value, up, down}
 use Rattle.std.proofs.lemmas.Bool.{cases_lt}
@@ -11,9 +11,8 @@ use Rattle.machine.specs.Schedule.{Tick, IsFree, fallen}
 use Rattle.machine.specs.Pictures.{interrupt_at, window_end}
 use Rattle.machine.specs.Ranges.{FitsWord}
 use Rattle.chip8_lang.specs.declared.view.Edition.{Edition}
-use Rattle.chip8_lang.specs.declared.view.Edition.TheVariants.{Usual, Tall}
 use Rattle.chip8_lang.specs.Editions.{memory_end}
-use Rattle.chip8_image.specs.Labels.{at_delay, at_resume}
+use Rattle.chip8_image.specs.declared.image.labels.TheConstants.{AT_DELAY, AT_RESUME}
 use Rattle.rom_law.specs.Program.{code}
 use Rattle.rom_rows.proofs.Bytes.{memory_end_is, variables_is, page_fits, page_low}
 use Rattle.rom_timer.proofs.Rom.{both, both_is, quick}
@@ -22,7 +21,7 @@ use Rattle.rom_timer.specs.Routine.{IsInterrupted, RunsRoutine, RunTick, routine
 use Rattle.rom_timer.proofs.Frame.{accepted}
 use Rattle.rom_timer.proofs.Board.{timed, at_byte, Serves, serves_join, serves_to, moves_more}
 use Rattle.rom_timer.proofs.Pushed.{pushed, as_long, read_low, read_high, others, bytes_fit}
-use Rattle.rom_timer.proofs.Window.{scanning, shown, left, window}
+use Rattle.rom_timer.proofs.Window.{scanning, shown, left, window, shown_fits}
 use Rattle.rom_timer.proofs.Serving.{taken, entered, serving, opens, Delays, delays, sounds, resumed, resumes}
 use Rattle.rom_timer.specs.Code.{timer_rom}
 
@@ -91,13 +90,13 @@ module _ (e : Edition) (m : ℕ) (b : Machine) (held : ℕ → Keys) (o : IsInte
   end : Machine
   end =
       timed (3668 * m + 2938) (resumed e held
-      (serving e held c0 at_resume b.regs.r.r8.lo rf (word (b.regs.r.r8.hi - 1) (b.regs.r.r8.lo - 1)) (not (b.regs.r.r8.lo == 0))))
+      (serving e held c0 AT_RESUME b.regs.r.r8.lo rf (word (b.regs.r.r8.hi - 1) (b.regs.r.r8.lo - 1)) (not (b.regs.r.r8.lo == 0))))
 
   to_window : Serves (code (quick e)) held 1421 (timed (3668 * m + 1093) (taken b))
-      (timed (3668 * m + 2912) (scanning (entered b) at_delay (shown e 32) (left e held 0 32)))
+      (timed (3668 * m + 2912) (scanning (entered b) AT_DELAY (shown e 32) (left e held 0 32)))
   to_window =
       serves_join (code (quick e)) held (opens e held m b)
-      (serves_to (code (quick e)) held (ap (λ t. timed t (scanning (entered b) at_delay (shown e 32) (left e held 0 32))) time)
+      (serves_to (code (quick e)) held (ap (λ t. timed t (scanning (entered b) AT_DELAY (shown e 32) (left e held 0 32))) time)
       (window e held (entered b) (262 * m + 80) 0 line))
     where
       line : (262 * m + 80) % 262 ≡ 80
@@ -168,10 +167,6 @@ module _ (e : Edition) (m : ℕ) (b : Machine) (held : ℕ → Keys) (o : IsInte
   x_back : read (both e) false (entered b).ram (value (up (down (down b.regs.r.r2)))) / 16 ≡ b.regs.x
   unfolding xp xp_back
   x_back = ap (λ z. z / 16) xp_back ∙ omega (arith, o.fits.regs.p)
-
-  shown_fits : (e : Edition) → FitsWord (word_of (shown e 32))
-  shown_fits Usual = record { hi = lit< tt; lo = lit< tt }
-  shown_fits Tall = record { hi = lit< tt; lo = lit< tt }
 
   pub kept : (j : ℕ) → (IsFree (memory_end e) b j → ⊥) → slice_index (entered b).ram j ≡ slice_index b.ram j
   unfolding a

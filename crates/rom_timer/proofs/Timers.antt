@@ -10,9 +10,9 @@ use Rattle.chip8_lang.specs.declared.view.Edition.{Edition}
 use Rattle.chip8_lang.specs.State.{Lang, variable, is_fetchable, instr_at}
 use Rattle.chip8_lang.specs.Step.{next, stop_of, step, done_by}
 use Rattle.chip8_lang.specs.Step.KeyInput.{Nothing}
-use Rattle.chip8_image.specs.Labels.{at_get_delay, at_get_delay_put, at_set_delay, at_set_delay_put, at_set_delay_end, at_set_sound, at_set_sound_put, at_set_sound_end}
+use Rattle.chip8_image.specs.declared.image.labels.TheConstants.{AT_GET_DELAY, AT_GET_DELAY_PUT, AT_SET_DELAY, AT_SET_DELAY_PUT, AT_SET_DELAY_END, AT_SET_SOUND, AT_SET_SOUND_PUT, AT_SET_SOUND_END}
 use Rattle.rom_law.specs.Holding.{Places, places, Holding}
-use Rattle.rom_law.specs.Moments.{Meets}
+use Rattle.rom_law.specs.Moments.{TicksBefore}
 use Rattle.rom_law.specs.Rows.{Since, now}
 use Rattle.rom_law.specs.Program.{code}
 use Rattle.rom_law.proofs.Places.{v_get, v_set, timers_set}
@@ -50,11 +50,11 @@ module _ (e : Edition) (b : Machine) (h : Since) (f : FitsMachine b) where
 
   -- ---- FX07
 
-  pub get_delay_holds : Enters (quick e) at_get_delay 15 b (now h) → low ≡ 0x07 → At (quick e) (AtTimer GetDelay) b h → h.spent ≡ 86
+  pub get_delay_holds : Enters (quick e) AT_GET_DELAY 15 b (now h) → low ≡ 0x07 → At (quick e) (AtTimer GetDelay) b h → h.spent ≡ 86
       → RunsPlace (quick e) (calm_pieces (quick e)) (AtTimer GetDelay) b h
-  get_delay_holds o kk at spent = alone (AtTimer GetDelay) f at o.entered.holds (entered e at_get_delay high low b) (is_entered o.entered) refl refl refl
+  get_delay_holds o kk at spent = alone (AtTimer GetDelay) f at o.entered.holds (entered e AT_GET_DELAY high low b) (is_entered o.entered) refl refl refl
       (λ u. to_timer (quick e) (one_more u h) _ refl GetDelayPut
-      (record { entered = looks b.regs.r.r8.hi at_get_delay_put o.entered; digit = o.digit }, kk, ap (λ (z : Lang). z.dt) o.entered.holds.is)
+      (record { entered = looks b.regs.r.r8.hi AT_GET_DELAY_PUT o.entered; digit = o.digit }, kk, ap (λ (z : Lang). z.dt) o.entered.holds.is)
       (omega (arith, spent), meets_now u h 86 spent))
 
   get_is : {a : ℕ} → Enters (quick e) a 15 b (now h) → low ≡ 0x07 → instr_at (now h) ≡ GetTimer (high % 16)
@@ -67,7 +67,7 @@ module _ (e : Edition) (b : Machine) (h : Since) (f : FitsMachine b) where
   abbrev put : ℕ → Places
   put v = record (places b) { ram = written b.latch b.ram (value (word (page_of e) (240 + high % 16))) v }
 
-  pub get_delay_put_comes : Enters (quick e) at_get_delay_put 15 b (now h) → low ≡ 0x07 → b.regs.d ≡ (now h).dt → h.spent ≡ 88 → Meets h.moments 86 h.ticks
+  pub get_delay_put_comes : Enters (quick e) AT_GET_DELAY_PUT 15 b (now h) → low ≡ 0x07 → b.regs.d ≡ (now h).dt → h.spent ≡ 88 → TicksBefore h.moments 86 h.ticks
       → RunsBlock (quick e) (calm_pieces (quick e)) (OfTimer GetDelayPut) b h
   get_delay_put_comes o kk d spent met =
       routine (OfTimer GetDelayPut) o.entered _ (omega arith) refl
@@ -80,12 +80,12 @@ module _ (e : Edition) (b : Machine) (h : Since) (f : FitsMachine b) where
 
   -- ---- FX15
 
-  pub set_delay_comes : Enters (quick e) at_set_delay 15 b (now h) → low ≡ 0x15 → h.spent ≡ 98 → RunsBlock (quick e) (calm_pieces (quick e)) (OfTimer SetDelay) b h
+  pub set_delay_comes : Enters (quick e) AT_SET_DELAY 15 b (now h) → low ≡ 0x15 → h.spent ≡ 98 → RunsBlock (quick e) (calm_pieces (quick e)) (OfTimer SetDelay) b h
   set_delay_comes o kk spent =
-      routine (OfTimer SetDelay) o.entered (looked e high low b vx (word_of at_set_delay_put))
+      routine (OfTimer SetDelay) o.entered (looked e high low b vx (word_of AT_SET_DELAY_PUT))
       (omega (arith, o.entered.holds.stack, stack_top_is e, page_fits e)) refl
       (λ h' g. to_timer_place (quick e) g _ refl SetDelayPut
-      (record { entered = looks vx at_set_delay_put o.entered; digit = o.digit }, kk, vx_is o.entered) (omega (arith, spent, g.spent)))
+      (record { entered = looks vx AT_SET_DELAY_PUT o.entered; digit = o.digit }, kk, vx_is o.entered) (omega (arith, spent, g.spent)))
 
   delay_is : high / 16 ≡ 15 → low ≡ 0x15 → instr_at (now h) ≡ SetTimer (high % 16)
   delay_is digit kk = rw (digit, kk) refl
@@ -93,10 +93,10 @@ module _ (e : Edition) (b : Machine) (h : Since) (f : FitsMachine b) where
   delay_runs : is_fetchable e (now h) ≡ true → high / 16 ≡ 15 → low ≡ 0x15 → stop_of e (now h) ≡ None
   delay_runs inside digit kk = rw (inside, digit, kk) refl
 
-  pub set_delay_put_holds : Enters (quick e) at_set_delay_put 15 b (now h) → low ≡ 0x15 → b.regs.d ≡ variable (now h) (high % 16)
+  pub set_delay_put_holds : Enters (quick e) AT_SET_DELAY_PUT 15 b (now h) → low ≡ 0x15 → b.regs.d ≡ variable (now h) (high % 16)
       → At (quick e) (AtTimer SetDelayPut) b h → h.spent ≡ 100 → RunsPlace (quick e) (calm_pieces (quick e)) (AtTimer SetDelayPut) b h
   set_delay_put_holds o kk d at spent =
-      alone (AtTimer SetDelayPut) f at o.entered.holds (entered e at_set_delay_put high low b) (is_entered o.entered) refl refl refl
+      alone (AtTimer SetDelayPut) f at o.entered.holds (entered e AT_SET_DELAY_PUT high low b) (is_entered o.entered) refl refl refl
       (λ u. to_timer (quick e) (one_more u h) _ refl SetDelayEnd
       (record { done = record { holds = writes; inside = o.entered.inside; p = refl; r3 = refl; r4 = refl }; digit = o.digit; low = kk })
       (omega (arith, spent), meets_now u h 100 spent))
@@ -111,15 +111,15 @@ module _ (e : Edition) (b : Machine) (h : Since) (f : FitsMachine b) where
           subst (Holding (quick e) (record (places b) { r8 = word b.regs.d b.regs.r.r8.lo })) same
           (timers_set o.entered.holds (word b.regs.d b.regs.r.r8.lo))
 
-  pub set_delay_end_comes : Ended (quick e) at_set_delay_end 0x15 b (now h) → h.spent ≡ 102 → Meets h.moments 100 h.ticks
+  pub set_delay_end_comes : Ended (quick e) AT_SET_DELAY_END 0x15 b (now h) → h.spent ≡ 102 → TicksBefore h.moments 100 h.ticks
       → RunsBlock (quick e) (calm_pieces (quick e)) (OfTimer SetDelayEnd) b h
   set_delay_end_comes o spent met = record {
     runs = ready o.done.holds;
     awake = o.done.holds.awake;
     some = omega arith;
-    end = quicks (code (quick e)) 1 (on_3 at_set_delay_end b);
+    end = quicks (code (quick e)) 1 (on_3 AT_SET_DELAY_END b);
     reaches =
-        reaches_from (code (quick e)) (calm_top e) 1 b _ _ (is_on_3 at_set_delay_end b o.done.p o.done.r3)
+        reaches_from (code (quick e)) (calm_top e) 1 b _ _ (is_on_3 AT_SET_DELAY_END b o.done.p o.done.r3)
         (reaches_in (code (quick e)) (calm_top e) 1 _ _ (omega arith) refl);
     ends =
         λ h' g. steps e g (SetTimer (high % 16)) (delay_is o.digit o.low) refl (delay_runs o.done.inside o.digit o.low) (omega (arith, spent)) (meets_grown g met) _
@@ -128,12 +128,12 @@ module _ (e : Edition) (b : Machine) (h : Since) (f : FitsMachine b) where
 
   -- ---- FX18
 
-  pub set_sound_comes : Enters (quick e) at_set_sound 15 b (now h) → low ≡ 0x18 → h.spent ≡ 104 → RunsBlock (quick e) (calm_pieces (quick e)) (OfTimer SetSound) b h
+  pub set_sound_comes : Enters (quick e) AT_SET_SOUND 15 b (now h) → low ≡ 0x18 → h.spent ≡ 104 → RunsBlock (quick e) (calm_pieces (quick e)) (OfTimer SetSound) b h
   set_sound_comes o kk spent =
-      routine (OfTimer SetSound) o.entered (looked e high low b vx (word_of at_set_sound_put))
+      routine (OfTimer SetSound) o.entered (looked e high low b vx (word_of AT_SET_SOUND_PUT))
       (omega (arith, o.entered.holds.stack, stack_top_is e, page_fits e)) refl
       (λ h' g. to_timer_place (quick e) g _ refl SetSoundPut
-      (record { entered = looks vx at_set_sound_put o.entered; digit = o.digit }, kk, vx_is o.entered) (omega (arith, spent, g.spent)))
+      (record { entered = looks vx AT_SET_SOUND_PUT o.entered; digit = o.digit }, kk, vx_is o.entered) (omega (arith, spent, g.spent)))
 
   sound_is : high / 16 ≡ 15 → low ≡ 0x18 → instr_at (now h) ≡ SetTone (high % 16)
   sound_is digit kk = rw (digit, kk) refl
@@ -141,10 +141,10 @@ module _ (e : Edition) (b : Machine) (h : Since) (f : FitsMachine b) where
   sound_runs : is_fetchable e (now h) ≡ true → high / 16 ≡ 15 → low ≡ 0x18 → stop_of e (now h) ≡ None
   sound_runs inside digit kk = rw (inside, digit, kk) refl
 
-  pub set_sound_put_holds : Enters (quick e) at_set_sound_put 15 b (now h) → low ≡ 0x18 → b.regs.d ≡ variable (now h) (high % 16)
+  pub set_sound_put_holds : Enters (quick e) AT_SET_SOUND_PUT 15 b (now h) → low ≡ 0x18 → b.regs.d ≡ variable (now h) (high % 16)
       → At (quick e) (AtTimer SetSoundPut) b h → h.spent ≡ 106 → RunsPlace (quick e) (calm_pieces (quick e)) (AtTimer SetSoundPut) b h
   set_sound_put_holds o kk d at spent =
-      alone (AtTimer SetSoundPut) f at o.entered.holds (entered e at_set_sound_put high low b) (is_entered o.entered) refl refl refl
+      alone (AtTimer SetSoundPut) f at o.entered.holds (entered e AT_SET_SOUND_PUT high low b) (is_entered o.entered) refl refl refl
       (λ u. to_timer (quick e) (one_more u h) _ refl SetSoundEnd
       (record { done = record { holds = writes; inside = o.entered.inside; p = refl; r3 = refl; r4 = refl }; digit = o.digit; low = kk })
       (omega (arith, spent), meets_now u h 106 spent))
@@ -159,15 +159,15 @@ module _ (e : Edition) (b : Machine) (h : Since) (f : FitsMachine b) where
           subst (Holding (quick e) (record (places b) { r8 = word b.regs.r.r8.hi b.regs.d })) same
           (timers_set o.entered.holds (word b.regs.r.r8.hi b.regs.d))
 
-  pub set_sound_end_comes : Ended (quick e) at_set_sound_end 0x18 b (now h) → h.spent ≡ 108 → Meets h.moments 106 h.ticks
+  pub set_sound_end_comes : Ended (quick e) AT_SET_SOUND_END 0x18 b (now h) → h.spent ≡ 108 → TicksBefore h.moments 106 h.ticks
       → RunsBlock (quick e) (calm_pieces (quick e)) (OfTimer SetSoundEnd) b h
   set_sound_end_comes o spent met = record {
     runs = ready o.done.holds;
     awake = o.done.holds.awake;
     some = omega arith;
-    end = quicks (code (quick e)) 1 (on_3 at_set_sound_end b);
+    end = quicks (code (quick e)) 1 (on_3 AT_SET_SOUND_END b);
     reaches =
-        reaches_from (code (quick e)) (calm_top e) 1 b _ _ (is_on_3 at_set_sound_end b o.done.p o.done.r3)
+        reaches_from (code (quick e)) (calm_top e) 1 b _ _ (is_on_3 AT_SET_SOUND_END b o.done.p o.done.r3)
         (reaches_in (code (quick e)) (calm_top e) 1 _ _ (omega arith) refl);
     ends =
         λ h' g. steps e g (SetTone (high % 16)) (sound_is o.digit o.low) refl (sound_runs o.done.inside o.digit o.low) (omega (arith, spent)) (meets_grown g met) _

@@ -1,21 +1,22 @@
 -- The scan: in each line of the window the routine makes an instruction, eight DMA cycles, and two instructions.
-use Rattle.std.proofs.Common.{sym, nat_lt, ◌≡◌, ℕ, zero, suc, ◌+◌, ◌*◌, ◌/◌, ◌%◌, ◌<◌, ◌≤◌, refl, ◌∙◌, ap, ap₂, subst₂, arith, Bool, true, false, cond}
+use Rattle.std.proofs.Common.{sym, nat_lt, ◌≡◌, ℕ, zero, suc, ◌+◌, ◌*◌, ◌/◌, ◌%◌, ◌<◌, ◌≤◌, refl, ◌∙◌, ap, ap₂, subst₂, arith, Bool, true, false, cond, ◌⊎◌, inl, inr, lit<}
 use Rattle.std.specs.Prelude.{◌==◌, bit_or}
-use Rattle.std.proofs.lemmas.Bool.{lt-ltb, le-ltb, le-leb, lt-leb, and_left, and_right, eqb-true, agree_below_at}
+use Rattle.std.proofs.lemmas.Bool.{lt-ltb, le-ltb, le-leb, lt-leb, and_left, and_right, eqb-true, agree_below_at, cases_lt}
 use Rattle.machine.specs.Bank.{word, word_of, down}
 use Rattle.machine.specs.Signals.{line_of, dma_at, efx_at}
 use Rattle.machine.specs.Board.{Machine, flags_of}
 use Rattle.machine.specs.Keys.{Keys}
 use Rattle.chip8_lang.specs.declared.view.Edition.{Edition}
 use Rattle.chip8_lang.specs.declared.view.Edition.TheVariants.{Usual, Tall}
-use Rattle.chip8_lang.specs.Editions.{screen_start}
-use Rattle.chip8_image.specs.Labels.{at_scan, at_scan1, at_scan2, at_scan3, at_delay}
+use Rattle.chip8_lang.specs.Editions.{screen_start, lines_of}
+use Rattle.chip8_image.specs.declared.image.labels.TheConstants.{AT_SCAN, AT_SCAN1, AT_SCAN2, AT_SCAN3, AT_DELAY}
 use Rattle.rom_law.specs.Code.{Code}
 use Rattle.rom_law.proofs.Moves.{quicks, quick_by}
 use Rattle.rom_law.specs.Program.{code}
 use Rattle.rom_rows.specs.Heads.{by_edition}
 use Rattle.rom_timer.proofs.Rom.{quick}
 use Rattle.rom_timer.proofs.Board.{timed, at_byte, Serves, serves_join, serves_to, serves_none, are_served, cycles_in, instructions, dmas, move_by, served, one}
+use Rattle.machine.specs.Ranges.{FitsWord}
 
 -- ---- the signals in a line
 
@@ -55,11 +56,11 @@ abbrev pub shown : Edition → ℕ → ℕ
 shown e zero = screen_start e
 shown e (suc g) = shown e g + step e
 
-pub shown_usual : (g : ℕ) → shown Usual g ≡ 0xf00 + 8 * g
+shown_usual : (g : ℕ) → shown Usual g ≡ 0xf00 + 8 * g
 shown_usual zero = refl
 shown_usual (suc g) = omega (arith, shown_usual g)
 
-pub shown_tall : (g : ℕ) → shown Tall g ≡ 0xe00 + 16 * g
+shown_tall : (g : ℕ) → shown Tall g ≡ 0xe00 + 16 * g
 shown_tall zero = refl
 shown_tall (suc g) = omega (arith, shown_tall g)
 
@@ -97,6 +98,23 @@ row_tall a h l =
 pub shown_row : (e : Edition) (g : ℕ) → g < 32 → IsRow e (shown e g)
 shown_row Usual g h = row_usual (shown Usual g) (omega (arith, shown_usual g)) (omega (arith, shown_usual g))
 shown_row Tall g h = row_tall (shown Tall g) (omega (arith, shown_tall g)) (omega (arith, shown_tall g))
+
+-- line k shows the row of its lines
+pub row_of : (e : Edition) (k : ℕ) → cond (nat_lt (k % 4) 2) (shown e (k / 4)) (shown e (k / 4) + next e) ≡ screen_start e + 8 * (k / lines_of e)
+row_of Usual k = go (nat_lt (k % 4) 2)
+  where
+    go : (t : Bool) → cond t (shown Usual (k / 4)) (shown Usual (k / 4) + 0) ≡ 0xf00 + 8 * (k / 4)
+    go true = shown_usual (k / 4)
+    go false = omega (arith, shown_usual (k / 4))
+row_of Tall k = go (cases_lt (k % 4) 2)
+  where
+    go : (k % 4 < 2) ⊎ (2 ≤ k % 4) → cond (nat_lt (k % 4) 2) (shown Tall (k / 4)) (shown Tall (k / 4) + 8) ≡ 0xe00 + 8 * (k / 2)
+    go (inl h) = rw (lt-ltb (k % 4) 2 h) (omega (arith, shown_tall (k / 4)))
+    go (inr h) = rw (le-ltb (k % 4) 2 h) (omega (arith, shown_tall (k / 4)))
+
+pub shown_fits : (e : Edition) → FitsWord (word_of (shown e 32))
+shown_fits Usual = record { hi = lit< tt; lo = lit< tt }
+shown_fits Tall = record { hi = lit< tt; lo = lit< tt }
 
 -- R0 after the DMA cycles, DEC R0 and PLO R0
 back : (a n : ℕ) → a + 8 < 0x10000 → (a + 7) / 256 ≡ (a + n) / 256 → word (down (word_of (a + 8))).hi ((a + n) % 256) ≡ word_of (a + n)
@@ -162,44 +180,44 @@ module _ (e : Edition) (held : ℕ → Keys) where
     room' : a + next e + 8 < 0x10000
     room' = omega (arith, row.fits, step_is e)
 
-    line_0 : (d : ℕ) → Serves (code (quick e)) held 11 (timed (14 * l) (scanning b at_scan a d)) (timed (14 * (l + 1)) (scanning b at_scan1 a (a % 256)))
+    line_0 : (d : ℕ) → Serves (code (quick e)) held 11 (timed (14 * l) (scanning b AT_SCAN a d)) (timed (14 * (l + 1)) (scanning b AT_SCAN1 a (a % 256)))
     line_0 d =
-        line l a (scanning b at_scan a d) (scanning b (at_scan + 1) a (a % 256))
-        (scanning b at_scan1 a (a % 256)) low high room refl refl refl refl refl
-        (ap (λ w. at_byte w (scanning b at_scan1 a (a % 256))) (back_0 a room row.first))
+        line l a (scanning b AT_SCAN a d) (scanning b (AT_SCAN + 1) a (a % 256))
+        (scanning b AT_SCAN1 a (a % 256)) low high room refl refl refl refl refl
+        (ap (λ w. at_byte w (scanning b AT_SCAN1 a (a % 256))) (back_0 a room row.first))
 
-    line_1 : Serves (code (quick e)) held 11 (timed (14 * l) (scanning b at_scan1 a (a % 256)))
-        (timed (14 * (l + 1)) (scanning b at_scan2 (a + next e) ((a + next e) % 256)))
+    line_1 : Serves (code (quick e)) held 11 (timed (14 * l) (scanning b AT_SCAN1 a (a % 256)))
+        (timed (14 * (l + 1)) (scanning b AT_SCAN2 (a + next e) ((a + next e) % 256)))
     line_1 =
-        line l a (scanning b at_scan1 a (a % 256)) (scanning b (at_scan1 + 2) a ((a + next e) % 256))
-        (scanning b at_scan2 (a + next e) ((a + next e) % 256)) low high room refl refl (ap (scanning b (at_scan1 + 2) a) row.or) refl refl
-        (ap (λ w. at_byte w (scanning b at_scan2 a ((a + next e) % 256))) (back a (next e) room row.high))
+        line l a (scanning b AT_SCAN1 a (a % 256)) (scanning b (AT_SCAN1 + 2) a ((a + next e) % 256))
+        (scanning b AT_SCAN2 (a + next e) ((a + next e) % 256)) low high room refl refl (ap (scanning b (AT_SCAN1 + 2) a) row.or) refl refl
+        (ap (λ w. at_byte w (scanning b AT_SCAN2 a ((a + next e) % 256))) (back a (next e) room row.high))
 
-    line_2 : Serves (code (quick e)) held 11 (timed (14 * l) (scanning b at_scan2 (a + next e) ((a + next e) % 256)))
-        (timed (14 * (l + 1)) (scanning b at_scan3 (a + next e) ((a + next e) % 256)))
+    line_2 : Serves (code (quick e)) held 11 (timed (14 * l) (scanning b AT_SCAN2 (a + next e) ((a + next e) % 256)))
+        (timed (14 * (l + 1)) (scanning b AT_SCAN3 (a + next e) ((a + next e) % 256)))
     line_2 =
-        line l (a + next e) (scanning b at_scan2 (a + next e) ((a + next e) % 256)) (scanning b (at_scan2 + 1) (a + next e) ((a + next e) % 256))
-        (scanning b at_scan3 (a + next e) ((a + next e) % 256)) low high room' refl refl refl refl refl
-        (ap (λ w. at_byte w (scanning b at_scan3 a ((a + next e) % 256))) (back_0 (a + next e) room' row.third))
+        line l (a + next e) (scanning b AT_SCAN2 (a + next e) ((a + next e) % 256)) (scanning b (AT_SCAN2 + 1) (a + next e) ((a + next e) % 256))
+        (scanning b AT_SCAN3 (a + next e) ((a + next e) % 256)) low high room' refl refl refl refl refl
+        (ap (λ w. at_byte w (scanning b AT_SCAN3 a ((a + next e) % 256))) (back_0 (a + next e) room' row.third))
 
     -- the last of four lines goes back to the first, or leaves the window where EFX is active
     line_3 : (efx : Bool) → efx_at (14 * l + 13) true ≡ efx
-        → Serves (code (quick e)) held 11 (timed (14 * l) (scanning b at_scan3 (a + next e) ((a + next e) % 256)))
-        (timed (14 * (l + 1)) (scanning b (cond efx at_delay at_scan) (a + step e) ((a + next e) % 256)))
+        → Serves (code (quick e)) held 11 (timed (14 * l) (scanning b AT_SCAN3 (a + next e) ((a + next e) % 256)))
+        (timed (14 * (l + 1)) (scanning b (cond efx AT_DELAY AT_SCAN) (a + step e) ((a + next e) % 256)))
     line_3 efx f =
         serves_join (code (quick e)) held
         (serves_join (code (quick e)) held
-        (opening 8 l (a + next e) (scanning b at_scan3 (a + next e) ((a + next e) % 256))
-        (scanning b (at_scan3 + 1) (a + next e) ((a + next e) % 256)) (omega arith) low high room' refl refl refl)
-        (serves_to (code (quick e)) held (ap (λ t. timed t (scanning b (at_scan3 + 2) (a + next e + 8) ((a + next e) % 256))) time)
-        (instructions (code (quick e)) held 1 (14 * l + 2 + 8) (scanning b (at_scan3 + 1) (a + next e + 8) ((a + next e) % 256)) refl
+        (opening 8 l (a + next e) (scanning b AT_SCAN3 (a + next e) ((a + next e) % 256))
+        (scanning b (AT_SCAN3 + 1) (a + next e) ((a + next e) % 256)) (omega arith) low high room' refl refl refl)
+        (serves_to (code (quick e)) held (ap (λ t. timed t (scanning b (AT_SCAN3 + 2) (a + next e + 8) ((a + next e) % 256))) time)
+        (instructions (code (quick e)) held 1 (14 * l + 2 + 8) (scanning b (AT_SCAN3 + 1) (a + next e + 8) ((a + next e) % 256)) refl
         (λ u m n. late u (omega arith)))))
         (one (code (quick e)) held at _ (record { by_r1 = refl; disabled = refl; awake = refl; on = refl })
         (move_by (code (quick e)) held efx at (served (code (quick e)) at refl) (late (14 * l + 12) (omega arith))
         (ap (λ t. efx_at t true) time' ∙ f) ∙ ends efx))
       where
         at : Machine
-        at = timed (14 * l + 12) (scanning b (at_scan3 + 2) (a + next e + 8) ((a + next e) % 256))
+        at = timed (14 * l + 12) (scanning b (AT_SCAN3 + 2) (a + next e + 8) ((a + next e) % 256))
 
         time : 14 * l + 2 + 8 + 2 ≡ 14 * l + 12
         time = omega arith
@@ -214,21 +232,21 @@ module _ (e : Edition) (held : ℕ → Keys) where
         bytes = omega (arith, step_is e)
 
         ends : (efx : Bool) → record (quick_by (code (quick e)) (flags_of efx (held (14 * l + 12 + 1) b.key)) at) { cycle = 14 * l + 12 + 2 }
-            ≡ timed (14 * (l + 1)) (scanning b (cond efx at_delay at_scan) (a + step e) ((a + next e) % 256))
-        ends true = λ i. timed (end i) (scanning b at_delay (bytes i) ((a + next e) % 256))
-        ends false = λ i. timed (end i) (scanning b at_scan (bytes i) ((a + next e) % 256))
+            ≡ timed (14 * (l + 1)) (scanning b (cond efx AT_DELAY AT_SCAN) (a + step e) ((a + next e) % 256))
+        ends true = λ i. timed (end i) (scanning b AT_DELAY (bytes i) ((a + next e) % 256))
+        ends false = λ i. timed (end i) (scanning b AT_SCAN (bytes i) ((a + next e) % 256))
 
   -- ---- four lines, and the whole window
 
   turn : (b : Machine) (l a d : ℕ) (efx : Bool) → 80 ≤ l % 262 → l % 262 + 3 < 208 → IsRow e a → efx_at (14 * (l + 1 + 1 + 1) + 13) true ≡ efx
-      → Serves (code (quick e)) held 44 (timed (14 * l) (scanning b at_scan a d))
-      (timed (14 * (l + 4)) (scanning b (cond efx at_delay at_scan) (a + step e) ((a + next e) % 256)))
+      → Serves (code (quick e)) held 44 (timed (14 * l) (scanning b AT_SCAN a d))
+      (timed (14 * (l + 4)) (scanning b (cond efx AT_DELAY AT_SCAN) (a + step e) ((a + next e) % 256)))
   turn b l a d efx low high row f =
       serves_join (code (quick e)) held
       (serves_join (code (quick e)) held
       (serves_join (code (quick e)) held (line_0 b l a low (omega arith) row d) (line_1 b (l + 1) a (omega arith) (omega arith) row))
       (line_2 b (l + 1 + 1) a (omega arith) (omega arith) row))
-      (serves_to (code (quick e)) held (ap (λ t. timed t (scanning b (cond efx at_delay at_scan) (a + step e) ((a + next e) % 256))) time)
+      (serves_to (code (quick e)) held (ap (λ t. timed t (scanning b (cond efx AT_DELAY AT_SCAN) (a + step e) ((a + next e) % 256))) time)
       (line_3 b (l + 1 + 1 + 1) a (omega arith) (omega arith) row efx f))
     where
       time : 14 * (l + 1 + 1 + 1 + 1) ≡ 14 * (l + 4)
@@ -240,17 +258,17 @@ module _ (e : Edition) (held : ℕ → Keys) where
   left d (suc g) = (shown e g + next e) % 256
 
   turns : (b : Machine) (l d g : ℕ) → l % 262 ≡ 80 → g < 32
-      → Serves (code (quick e)) held (44 * g) (timed (14 * l) (scanning b at_scan (screen_start e) d))
-      (timed (14 * (l + 4 * g)) (scanning b at_scan (shown e g) (left d g)))
+      → Serves (code (quick e)) held (44 * g) (timed (14 * l) (scanning b AT_SCAN (screen_start e) d))
+      (timed (14 * (l + 4 * g)) (scanning b AT_SCAN (shown e g) (left d g)))
   turns b l d zero h k =
-      serves_to (code (quick e)) held (ap (λ t. timed t (scanning b at_scan (screen_start e) d)) time)
-      (serves_none (code (quick e)) held (timed (14 * l) (scanning b at_scan (screen_start e) d)))
+      serves_to (code (quick e)) held (ap (λ t. timed t (scanning b AT_SCAN (screen_start e) d)) time)
+      (serves_none (code (quick e)) held (timed (14 * l) (scanning b AT_SCAN (screen_start e) d)))
     where
       time : 14 * l ≡ 14 * (l + 4 * 0)
       time = omega arith
   turns b l d (suc g) h k =
-      subst₂ (λ n t. Serves (code (quick e)) held n (timed (14 * l) (scanning b at_scan (screen_start e) d))
-      (timed (14 * t) (scanning b at_scan (shown e (suc g)) (left d (suc g))))) count lines
+      subst₂ (λ n t. Serves (code (quick e)) held n (timed (14 * l) (scanning b AT_SCAN (screen_start e) d))
+      (timed (14 * t) (scanning b AT_SCAN (shown e (suc g)) (left d (suc g))))) count lines
       (serves_join (code (quick e)) held (turns b l d g h (omega arith))
       (turn b (l + 4 * g) (shown e g) (left d g) false (omega (arith, h)) (omega (arith, h)) (shown_row e g (omega arith))
       (not_yet (14 * (l + 4 * g + 1 + 1 + 1) + 13) (omega (arith, h)) (omega (arith, h)))))
@@ -263,10 +281,10 @@ module _ (e : Edition) (held : ℕ → Keys) where
 
   -- from the first line of a window to the end of its last one
   pub window : (b : Machine) (l d : ℕ) → l % 262 ≡ 80
-      → Serves (code (quick e)) held 1408 (timed (14 * l) (scanning b at_scan (screen_start e) d))
-      (timed (14 * (l + 128)) (scanning b at_delay (shown e 32) (left d 32)))
+      → Serves (code (quick e)) held 1408 (timed (14 * l) (scanning b AT_SCAN (screen_start e) d))
+      (timed (14 * (l + 128)) (scanning b AT_DELAY (shown e 32) (left d 32)))
   window b l d h =
-      serves_to (code (quick e)) held (ap (λ t. timed (14 * t) (scanning b at_delay (shown e 32) (left d 32))) lines)
+      serves_to (code (quick e)) held (ap (λ t. timed (14 * t) (scanning b AT_DELAY (shown e 32) (left d 32))) lines)
       (serves_join (code (quick e)) held (turns b l d 31 h (omega arith))
       (turn b (l + 4 * 31) (shown e 31) (left d 31) true (omega (arith, h)) (omega (arith, h)) (shown_row e 31 (omega arith))
       (last_four (14 * (l + 4 * 31 + 1 + 1 + 1) + 13) (omega (arith, h)) (omega (arith, h)))))
@@ -306,71 +324,71 @@ module _ (e : Edition) (held : ℕ → Keys) where
     a = shown e g
 
     abbrev s : Machine
-    s = timed (14 * l) (scanning b at_scan (screen_start e) d)
+    s = timed (14 * l) (scanning b AT_SCAN (screen_start e) d)
 
     row : IsRow e (shown e g)
     row = shown_row e g some
 
-    first_line : Serves (code (quick e)) held (44 * g) s (timed (14 * (l + 4 * g)) (scanning b at_scan a (left d g)))
+    first_line : Serves (code (quick e)) held (44 * g) s (timed (14 * (l + 4 * g)) (scanning b AT_SCAN a (left d g)))
     first_line = turns b l d g top some
 
-    second_line : Serves (code (quick e)) held (44 * g + 11) s (timed (14 * (l + 4 * g + 1)) (scanning b at_scan1 a (a % 256)))
+    second_line : Serves (code (quick e)) held (44 * g + 11) s (timed (14 * (l + 4 * g + 1)) (scanning b AT_SCAN1 a (a % 256)))
     second_line = serves_join (code (quick e)) held first_line (line_0 b (l + 4 * g) a (omega (arith, top, some)) (omega (arith, top, some)) row (left d g))
 
-    third_line : Serves (code (quick e)) held (44 * g + 11 + 11) s (timed (14 * (l + 4 * g + 1 + 1)) (scanning b at_scan2 (a + next e) ((a + next e) % 256)))
+    third_line : Serves (code (quick e)) held (44 * g + 11 + 11) s (timed (14 * (l + 4 * g + 1 + 1)) (scanning b AT_SCAN2 (a + next e) ((a + next e) % 256)))
     third_line = serves_join (code (quick e)) held second_line (line_1 b (l + 4 * g + 1) a (omega (arith, top, some)) (omega (arith, top, some)) row)
 
     fourth_line : Serves (code (quick e)) held (44 * g + 11 + 11 + 11) s
-        (timed (14 * (l + 4 * g + 1 + 1 + 1)) (scanning b at_scan3 (a + next e) ((a + next e) % 256)))
+        (timed (14 * (l + 4 * g + 1 + 1 + 1)) (scanning b AT_SCAN3 (a + next e) ((a + next e) % 256)))
     fourth_line = serves_join (code (quick e)) held third_line (line_2 b (l + 4 * g + 1 + 1) a (omega (arith, top, some)) (omega (arith, top, some)) row)
 
     pub begins_0 : Begins b s (l + 4 * g) a
     begins_0 =
-        begin b s (44 * g) (l + 4 * g) a (scanning b at_scan a (left d g)) (scanning b (at_scan + 1) a (a % 256))
+        begin b s (44 * g) (l + 4 * g) a (scanning b AT_SCAN a (left d g)) (scanning b (AT_SCAN + 1) a (a % 256))
         (omega (arith, some)) refl refl refl refl refl first_line
 
     pub begins_1 : Begins b s (l + 4 * g + 1) a
     begins_1 =
-        begin b s (44 * g + 11) (l + 4 * g + 1) a (scanning b at_scan1 a (a % 256)) (scanning b (at_scan1 + 2) a ((a + next e) % 256))
-        (omega (arith, some)) refl refl (ap (scanning b (at_scan1 + 2) a) row.or) refl refl second_line
+        begin b s (44 * g + 11) (l + 4 * g + 1) a (scanning b AT_SCAN1 a (a % 256)) (scanning b (AT_SCAN1 + 2) a ((a + next e) % 256))
+        (omega (arith, some)) refl refl (ap (scanning b (AT_SCAN1 + 2) a) row.or) refl refl second_line
 
     pub begins_2 : Begins b s (l + 4 * g + 1 + 1) (a + next e)
     begins_2 =
-        begin b s (44 * g + 11 + 11) (l + 4 * g + 1 + 1) (a + next e) (scanning b at_scan2 (a + next e) ((a + next e) % 256))
-        (scanning b (at_scan2 + 1) (a + next e) ((a + next e) % 256)) (omega (arith, some)) refl refl refl refl refl third_line
+        begin b s (44 * g + 11 + 11) (l + 4 * g + 1 + 1) (a + next e) (scanning b AT_SCAN2 (a + next e) ((a + next e) % 256))
+        (scanning b (AT_SCAN2 + 1) (a + next e) ((a + next e) % 256)) (omega (arith, some)) refl refl refl refl refl third_line
 
     pub begins_3 : Begins b s (l + 4 * g + 1 + 1 + 1) (a + next e)
     begins_3 =
-        begin b s (44 * g + 11 + 11 + 11) (l + 4 * g + 1 + 1 + 1) (a + next e) (scanning b at_scan3 (a + next e) ((a + next e) % 256))
-        (scanning b (at_scan3 + 1) (a + next e) ((a + next e) % 256)) (omega (arith, some)) refl refl refl refl refl fourth_line
+        begin b s (44 * g + 11 + 11 + 11) (l + 4 * g + 1 + 1 + 1) (a + next e) (scanning b AT_SCAN3 (a + next e) ((a + next e) % 256))
+        (scanning b (AT_SCAN3 + 1) (a + next e) ((a + next e) % 256)) (omega (arith, some)) refl refl refl refl refl fourth_line
 
   -- each line of the window, with the address of its row
   pub begins : (b : Machine) (l d k address : ℕ) → l % 262 ≡ 80 → k < 128
       → cond (nat_lt (k % 4) 2) (shown e (k / 4)) (shown e (k / 4) + next e) ≡ address
-      → Begins b (timed (14 * l) (scanning b at_scan (screen_start e) d)) (l + k) address
+      → Begins b (timed (14 * l) (scanning b AT_SCAN (screen_start e) d)) (l + k) address
   begins b l d k address top some is = go (k % 4) refl (omega arith)
     where
-      go : (q : ℕ) → k % 4 ≡ q → q < 4 → Begins b (timed (14 * l) (scanning b at_scan (screen_start e) d)) (l + k) address
+      go : (q : ℕ) → k % 4 ≡ q → q < 4 → Begins b (timed (14 * l) (scanning b AT_SCAN (screen_start e) d)) (l + k) address
       go zero h r =
-          subst₂ (Begins b (timed (14 * l) (scanning b at_scan (screen_start e) d))) same
+          subst₂ (Begins b (timed (14 * l) (scanning b AT_SCAN (screen_start e) d))) same
           (ap (λ z. cond (nat_lt z 2) (shown e (k / 4)) (shown e (k / 4) + next e)) (sym h) ∙ is) (begins_0 b l d (k / 4) top (omega arith))
         where
           same : l + 4 * (k / 4) ≡ l + k
           same = omega (arith, h)
       go (suc zero) h r =
-          subst₂ (Begins b (timed (14 * l) (scanning b at_scan (screen_start e) d))) same
+          subst₂ (Begins b (timed (14 * l) (scanning b AT_SCAN (screen_start e) d))) same
           (ap (λ z. cond (nat_lt z 2) (shown e (k / 4)) (shown e (k / 4) + next e)) (sym h) ∙ is) (begins_1 b l d (k / 4) top (omega arith))
         where
           same : l + 4 * (k / 4) + 1 ≡ l + k
           same = omega (arith, h)
       go (suc (suc zero)) h r =
-          subst₂ (Begins b (timed (14 * l) (scanning b at_scan (screen_start e) d))) same
+          subst₂ (Begins b (timed (14 * l) (scanning b AT_SCAN (screen_start e) d))) same
           (ap (λ z. cond (nat_lt z 2) (shown e (k / 4)) (shown e (k / 4) + next e)) (sym h) ∙ is) (begins_2 b l d (k / 4) top (omega arith))
         where
           same : l + 4 * (k / 4) + 1 + 1 ≡ l + k
           same = omega (arith, h)
       go (suc (suc (suc zero))) h r =
-          subst₂ (Begins b (timed (14 * l) (scanning b at_scan (screen_start e) d))) same
+          subst₂ (Begins b (timed (14 * l) (scanning b AT_SCAN (screen_start e) d))) same
           (ap (λ z. cond (nat_lt z 2) (shown e (k / 4)) (shown e (k / 4) + next e)) (sym h) ∙ is) (begins_3 b l d (k / 4) top (omega arith))
         where
           same : l + 4 * (k / 4) + 1 + 1 + 1 ≡ l + k

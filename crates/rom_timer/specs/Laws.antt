@@ -1,5 +1,5 @@
 -- What is proved of CXKK, FX07, FX15 and FX18.
-use Rattle.std.specs.Prelude.{◌≡◌, ℕ, List, [], ◌∷◌}
+use Rattle.std.specs.Prelude.{◌≡◌, ℕ, List}
 use Rattle.machine.specs.Instruction.{at}
 use Rattle.machine.specs.Board.{Machine}
 use Rattle.chip8_lang.specs.declared.view.Edition.{Edition}
@@ -10,7 +10,7 @@ use Rattle.rom_rows.specs.TimerBlocks.{TimerBlock, TimerPlace, timer_place_data}
 use Rattle.rom_rows.specs.Table.{At, BlockRows, PlaceRows}
 use Rattle.rom_rows.specs.Table.Block.{OfTimer}
 use Rattle.rom_rows.specs.Table.Place.{AtTimer}
-use Rattle.rom_rows.specs.Addresses.{RunsAt, Covers}
+use Rattle.rom_rows.specs.Addresses.{RunsAt, AllInBlocks}
 
 -- every main move keeps the rows
 abbrev pub TimerRows : (Edition → List ℕ) → Type 0
@@ -31,4 +31,4 @@ TimerPlaceAddresses rom =
 
 -- each instruction of that code is in some block or at some place
 abbrev pub TimerCovers : Type 0
-TimerCovers = Covers Timer
+TimerCovers = AllInBlocks Timer

@@ -131,6 +131,11 @@ impl Console {
         bytes
     }
 
+    /// The byte of memory at an address.
+    pub fn byte(&self, address: u16) -> u8 {
+        self.board.memory().read(address)
+    }
+
     /// The opcode at a dispatch point, where both its bytes lie in game memory.
     pub fn opcode(&self) -> Option<u16> {
         let pc = self.board.cpu().r(5);

@@ -24,6 +24,7 @@ mod edition;
 mod files;
 mod language;
 mod numbers;
+mod parts;
 mod report;
 mod runs;
 mod source;
@@ -35,6 +36,7 @@ use crate::comparison::compare_sources;
 use crate::cuts::cut_runs;
 use crate::edition::{EDITIONS, name};
 use crate::files::run_files;
+use crate::parts::write_parts;
 use crate::report::{
     write_compared, write_costs, write_cuts, write_files, write_form, write_frames, write_wrong,
 };
@@ -94,6 +96,7 @@ fn run_wrong_ones(
 /// Looks at an edition, with the texts of what is measured and of what is wrong.
 fn run_edition(rt: &HostRuntime, edition: Edition, costs: &str, wrong: &str) -> anyhow::Result<()> {
     let key_tests = look_at_source(rt, edition)?;
+    write_parts(rt, edition)?;
     measure(rt, edition, costs, key_tests)?;
     run_wrong_ones(rt, edition, wrong, key_tests)
 }

@@ -1,4 +1,4 @@
-use Rattle.rom_board.proofs.Rest.{saved_goes_on}
+use Rattle.rom_board.proofs.BehindSaved.{saved_goes_on}
 use Rattle.rom_board.proofs.saved.saved_goes_on.Goals as goal
 
 pub returns : goal.returns

@@ -29,7 +29,7 @@ use Rattle.rom_law.specs.Runs.Moves.{Still, Arrived, Halted}
 use Rattle.rom_law.proofs.Carried.{carried_from, carried_state}
 use Rattle.rom_rows.specs.Rom.{image, vip}
 use Rattle.rom_run.specs.Running.{Running}
-use Rattle.rom_run.proofs.Keys.{Known, known_on, in_time}
+use Rattle.rom_run.proofs.Keys.{KeysKnown, known_on, in_time}
 use Rattle.rom_run.proofs.Moves.{board_moves}
 use Rattle.rom_run.proofs.Waits.{sleeps}
 
@@ -85,10 +85,10 @@ module _ (e : Edition) (script : List Event) (t : ℕ) where
   -- the board goes on to its next event, where that comes by cycle `end`
   abbrev GoesOn : ℕ → Type 0
   GoesOn fuel =
-      (end : ℕ) (b : Machine) (h : Since) → Running e script b h → Known e script b.cycle h
+      (end : ℕ) (b : Machine) (h : Since) → Running e script b h → KeysKnown e script b.cycle h
       → ((u : ℕ) → InTime (vip e) script h.from h.state u → u ≤ end) → t < (next b).cycle → end < b.cycle + fuel → Comes e script t h.from h.state
 
-  module _ (end : ℕ) (b : Machine) (h : Since) (r : Running e script b h) (known : Known e script b.cycle h)
+  module _ (end : ℕ) (b : Machine) (h : Since) (r : Running e script b h) (known : KeysKnown e script b.cycle h)
       (soon : (u : ℕ) → InTime (vip e) script h.from h.state u → u ≤ end) (behind : t < (next b).cycle) where
     from_h : (passed b h).from ≡ h.from
     from_h = carried_from (image e) (held_at script) b h
@@ -343,7 +343,7 @@ abbrev pub SameTo : ℕ → List Event → List Event → Type 0
 SameTo n script other = (t : ℕ) → t ≤ n → held_at other t ≡ held_at script t
 
 abbrev pub UnderAny : Edition → List Event → Machine → Since → Type 0
-UnderAny e script b h = (other : List Event) → SameTo b.cycle script other → Running e other b h × Known e other b.cycle h
+UnderAny e script b h = (other : List Event) → SameTo b.cycle script other → Running e other b h × KeysKnown e other b.cycle h
 
 module _ (e : Edition) (script : List Event) (b : Machine) (h : Since) (any : UnderAny e script b h) where
   abbrev c : Machine
@@ -357,7 +357,7 @@ module _ (e : Edition) (script : List Event) (b : Machine) (h : Since) (any : Un
     same_set : held_at other (b.cycle + 1) ≡ held_at script (b.cycle + 1)
     same_set = same (b.cycle + 1) (omega (arith, later-move (image e) (held_at script) b))
 
-    here : Running e other b h × Known e other b.cycle h
+    here : Running e other b h × KeysKnown e other b.cycle h
     here = any other (λ t l. same t (omega (arith, l, later-move (image e) (held_at script) b)))
 
     moves_there : Moves (vip e) other (Running e other) h' c
@@ -365,9 +365,9 @@ module _ (e : Edition) (script : List Event) (b : Machine) (h : Since) (any : Un
         subst₂ (Moves (vip e) other (Running e other)) (carried_same e script other b same_set h) (move_same e script other b same_set)
         (board_moves e other b h here.0)
 
-    pub known_there : Known e other c.cycle h'
+    pub known_there : KeysKnown e other c.cycle h'
     known_there =
-        subst₂ (Known e other) (ap (λ (z : Machine). z.cycle) (move_same e script other b same_set)) (carried_same e script other b same_set h)
+        subst₂ (KeysKnown e other) (ap (λ (z : Machine). z.cycle) (move_same e script other b same_set)) (carried_same e script other b same_set h)
         (known_on e other b h here.0 here.1)
 
     pub still_there : is_dispatch (vip e).interpreter c ≡ false → is_stop (vip e).interpreter c ≡ false → Running e other c h'
@@ -395,7 +395,7 @@ module _ (e : Edition) (script : List Event) (b : Machine) (h : Since) (any : Un
         past_at o.cycle limit (next_point e script limit h.from h.state) o.behind
         (subst (At o.cycle) (stop_same e script h.from h.state o.cycle limit (stop_of e h.state) bound is) (o.at o.cycle (le_refl o.cycle)))
       where
-        known : Running e script b h × Known e script b.cycle h
+        known : Running e script b h × KeysKnown e script b.cycle h
         known = any script (λ t l. refl)
 
         o : Comes e script limit h.from h.state
@@ -409,7 +409,7 @@ module _ (e : Edition) (script : List Event) (b : Machine) (h : Since) (any : Un
         other : List Event
         other = pressed_behind limit script
 
-        known : Running e other b h × Known e other b.cycle h
+        known : Running e other b h × KeysKnown e other b.cycle h
         known = any other (λ t l. same_before limit script t (omega (arith, l, inside)))
 
         runs : stop_of e h.state ≡ None
