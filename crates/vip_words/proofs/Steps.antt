@@ -174,6 +174,18 @@ pub keys_turn : (name : Text) (count : ℕ) (rows : List Row) (pending : Pending
     → turn_fault (shape name count) [] (stand rows pending idle position) (codes "--keys") ≡ or_else (settles count rows pending) []
 keys_turn name count rows pending position = refl
 
+-- an option where `--keys` waits
+pub asking_flag_turn : (name : Text) (count : ℕ) (flag : Flag) (rows : List Row) (position : ℕ)
+    → turn_fault (shape name count) [] (stand rows keys_pending keys_waiting position) (flag_option flag)
+    ≡ or_else (or_else (settles count rows keys_pending) (use_fault false (flag_argument flag) [] (settled_after count keys_pending rows))) []
+asking_flag_turn name count At rows position = refl
+asking_flag_turn name count _ rows position = refl
+
+pub asking_keys_turn : (name : Text) (count : ℕ) (rows : List Row) (position : ℕ)
+    → turn_fault (shape name count) [] (stand rows keys_pending keys_waiting position) (codes "--keys")
+    ≡ or_else (settles count rows keys_pending) []
+asking_keys_turn name count rows position = refl
+
 -- a plain word where `--keys` waits is its value
 pub value_step : (count : ℕ) (rows : List Row) (position c : ℕ) (cs : Text) → (c == 45) ≡ false
     → walked (arguments count) [] (stand rows keys_pending keys_waiting position) (c ∷ cs)

@@ -4,16 +4,16 @@ use Rattle.std.proofs.Common.{◌≡◌, ◌∙◌, ap, sym, subst, refl, arith,
 use Rattle.std.proofs.lemmas.Bool.{ne_eqb}
 use Rattle.std.specs.List.{list_all, list_any}
 use Rattle.std.specs.Prelude.{◌==◌, ◌&&◌, ◌||◌, bytes_eq, is_some, if◌then◌else◌, slice_get}
-use Rattle.clap.specs.Faults.{turn_fault}
+use Rattle.clap.specs.Faults.{turn_fault, use_fault}
 use Rattle.clap.specs.Kinds.{Kinds, check_kinds, or_else}
 use Rattle.clap.specs.Walk.{Row, Text, Waiting, Walk, finished, idle, used, walked}
 use Rattle.vip_words.specs.Command.{command_faults, command_rows}
-use Rattle.vip_words.specs.Rules.{every_flag, every_option, flag_option, has_values, is_given, is_known, is_once, keys_value, positional_words}
+use Rattle.vip_words.specs.Rules.{every_flag, every_option, flag_option, has_values, is_given, is_keys, is_known, is_once, keys_value, positional_words}
 use Rattle.vip_words.proofs.Rows.{Seen, both_true, look, or_first, or_first-none, same_bytes}
 use Rattle.vip_words.specs.declared.flag.Flag.{Flag}
 use Rattle.vip_words.specs.declared.flag.Flag.TheVariants.{At}
 use Rattle.vip_words.proofs.Flags.{flag_among, is_flag, no_flag, one_flag_fails, same_flag}
-use Rattle.vip_words.proofs.Steps.{and_never, First, Fourth, Pending, Place, Second, Third, arguments, keys_pending, keys_waiting, flag_argument, flag_step, flag_turn, held, keys_step, keys_turn, place_at, place_name, place_step, place_turn, settled_after, settles, shape, stand, stray_turn, value_step, value_turn}
+use Rattle.vip_words.proofs.Steps.{and_never, asking_flag_turn, asking_keys_turn, First, Fourth, Pending, Place, Second, Third, arguments, keys_pending, keys_waiting, flag_argument, flag_step, flag_turn, held, keys_step, keys_turn, place_at, place_name, place_step, place_turn, settled_after, settles, shape, stand, stray_turn, value_step, value_turn}
 use Rattle.vip_words.specs.Rules.{Given, Word}
 use Rattle.vip_words.proofs.Ends.{EndsGiven, ends_checked, shows_end}
 use Rattle.vip_words.proofs.Shown.{Facts, Idle, flag_again, flag_idle, flag_seen, word_seen, flag_use, keys_again, keys_idle, no_rows, nothing_given, one_word, place_idle, with_flag, with_keys, with_word}
@@ -311,6 +311,9 @@ flag_passes : (count before : ℕ) (given : Given) (new : Flag) (words : List Te
 flag_passes count before given At words off = ap (passes_if count before (is_some given.keys) words) (flags_once-with given At words off)
 flag_passes count before given new words off = ap (passes_if count before (is_some given.keys) words) (flags_once-with given new words off)
 
+flag_is_no_keys : (flag : Flag) → is_keys (flag_option flag) ≡ false
+flag_is_no_keys flag = no_flag (λ f. is_keys (flag_option f)) refl flag
+
 by_three : (a b d : Bool) → (a || (b || d)) ≡ ((b || a) || d)
 by_three true true d = refl
 by_three true false d = refl
@@ -318,8 +321,10 @@ by_three false true d = refl
 by_three false false d = refl
 
 flag_given : (given : Given) (new : Flag) (words : List Text) → then_given given (flag_option new ∷ words) ≡ then_given (with_flag new given) words
-flag_given given At words = with_has given (flag_option At ∷ words) _ (λ f. by_three (given.has f) (is_flag At f) (is_given (flag_option f) words))
-flag_given given new words = with_has given (flag_option new ∷ words) _ (λ f. by_three (given.has f) (is_flag new f) (is_given (flag_option f) words))
+flag_given given new words =
+    with_has given (flag_option new ∷ words) (then_given (with_flag new given) words).has
+    (λ f. by_three (given.has f) (is_flag new f) (is_given (flag_option f) words))
+    ∙ rw (flag_is_no_keys new) refl
 
 -- where a test in the middle fails
 never_all : (a b d : Bool) → b ≡ false → (a && (b && d)) ≡ false
@@ -375,15 +380,23 @@ asking_plain name count words c cs plain rest rows before given is within none f
     (rest.when_idle rows (one_word (codes "keys") (c ∷ cs)) before (with_keys (c ∷ cs) given) is within
     (keys_idle count rows given (c ∷ cs) none facts))
 
+-- `--keys` waits, which is a fault unless a value comes
+unsettled : (count : ℕ) (rows : List Row) → IsFault (settles count rows keys_pending)
+unsettled count rows = λ e. cc
+
 -- an option can't stand in the place of a value
 abbrev IsOption : Text → Type 0
 IsOption word = (word ≡ codes "--keys") ⊎ ((flag : Flag) × (word ≡ flag_option flag))
 
 option_turn : (name : Text) (count : ℕ) (rows : List Row) (position : ℕ) (word : Text) → IsOption word
     → IsFault (turn_fault (shape name count) [] (stand rows keys_pending keys_waiting position) word)
-option_turn name count rows position word (inl is) = rw is (λ e. cc)
-option_turn name count rows position word (inr (At, is)) = rw is (λ e. cc)
-option_turn name count rows position word (inr (_, is)) = rw is (λ e. cc)
+option_turn name count rows position word (inl is) =
+    rw (is, asking_keys_turn name count rows position) (first_fault (settles count rows keys_pending) [] (unsettled count rows))
+option_turn name count rows position word (inr (flag, is)) =
+    let again : Kinds = use_fault false (flag_argument flag) [] (settled_after count keys_pending rows) in
+    rw (is, asking_flag_turn name count flag rows position)
+    (first_fault (or_else (settles count rows keys_pending) again) []
+    (first_fault (settles count rows keys_pending) again (unsettled count rows)))
 
 option_refused : (count before : ℕ) (given : Given) (word : Text) (words : List Text) → IsOption word
     → passes count before true true given (word ∷ words) ≡ false
@@ -475,10 +488,6 @@ idle_end name count few rows pending before given is within idles =
     by_count : (b : Bool) → Agrees b (check_kinds false false (not b)) (finished (arguments count) (held rows pending)) given
     by_count true = (refl, shows_end count (settled_after count pending rows) given idles.facts)
     by_count false = λ e. cc
-
--- `--keys` still waits
-unsettled : (count : ℕ) (rows : List Row) → IsFault (settles count rows keys_pending)
-unsettled count rows = λ e. cc
 
 asking_end : (name : Text) (count : ℕ) → AskingAgrees name count []
 asking_end name count rows before given is within none facts =
