@@ -4,8 +4,8 @@
 //! where it keeps its state for those that look there. It stands on `chip8_lang` for the edition and for where the definitions have these places.
 //! The two ROMs have the same labels and the same instructions at the same addresses; 24 operand bytes differ, each the value of a name in the
 //! source's head. `image` has the bytes once, and both where they differ, and the labels; `.ci/image` writes it from the sources. The layer above may
-//! rely on this: `AREAS` is the one place that says which addresses belong to which part, by the labels, and `part` and `tall_part` look an address up
-//! in it; `Places::of` has what the definitions say of an edition. That the bytes are what the source assembles to is compared at each run; that each
+//! rely on this: `AREAS` is the one place that says which addresses belong to which part, by the labels, and `part` looks an address up in it;
+//! `Places::of` has what the definitions say of an edition. That the bytes are what the source assembles to is compared at each run; that each
 //! part's bytes lie where the map says is proved in `rom_run`.
 #![tactic(auto)]
 
@@ -45,7 +45,7 @@ pub const TALL_ENTRY: u16 = ENTRY;
 /// opcode the same, and in both editions.
 pub const DISPATCH: u32 = 80;
 
-/// The part of the usual ROM in which an address lies: that of its area in `AREAS`, and `Other` where it lies in none.
+/// The part of the ROM in which an address lies, in both editions: that of its area in `AREAS`, and `Other` where it lies in none.
 pub fn part(address: u16) -> Part
     ensures { result ≡ part_of address }
 {
@@ -55,11 +55,4 @@ pub fn part(address: u16) -> Part
         }
     }
     Part::Other
-}
-
-/// The part of the tall ROM in which an address lies: that of the usual ROM.
-pub fn tall_part(address: u16) -> Part
-    ensures { result ≡ part_of address }
-{
-    part(address)
 }

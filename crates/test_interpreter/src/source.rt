@@ -5,7 +5,7 @@ ghost use Rattle.std.specs.Prelude.{◌≤◌, IfOk, vec_len};
 use crate::watch::KeyTests;
 use asm_core::{AsmFault, Assembly, assemble, next_line};
 use asm_lex::{Isa, Symbols, Word, line};
-use chip8_image::{AREAS, ENTRY, FETCH, HALT, Part, TALL_ENTRY, TALL_FETCH, TALL_HALT};
+use chip8_image::{ENTRY, FETCH, HALT, Part, TALL_ENTRY, TALL_FETCH, TALL_HALT, part};
 use chip8_lang::Edition;
 use chip8_source::{source, tall_source};
 use std::alloc::{AllocError, Global};
@@ -15,6 +15,9 @@ use thiserror::Error;
 const FONT: u16 = 0x8700;
 
 const FONT_END: u16 = 0x8750;
+
+/// The bytes of the dispatch table.
+const TABLE_SIZE: u16 = 32;
 
 /// The labels in the dispatch table, by the first digit of an opcode.
 const ROUTINES: &[&str] = &[
@@ -122,16 +125,13 @@ fn heading_of(bytes: &[u8]) -> Option<Part> {
 
 /// The part whose text gives the byte at an address. The dispatch table, which is no code, stands with the fetch.
 fn part_due(address: u16, table: u16) -> Option<Part> {
-    for area in AREAS {
-        if area.holds(address) {
-            return Some(if area.first == table {
-                Part::Fetch
-            } else {
-                area.part
-            });
-        }
+    let in_table = address.wrapping_sub(table) < TABLE_SIZE;
+    let in_font = (FONT..FONT_END).contains(&address);
+    match part(address) {
+        Part::Other if in_table => Some(Part::Fetch),
+        Part::Other if !in_font => None,
+        part => Some(part),
     }
-    None
 }
 
 /// The source of an edition.
@@ -223,7 +223,7 @@ impl Source {
     fn is_stray(&self, number: u32, table: u16) -> bool {
         (0..=u16::MAX).any(|address| {
             let in_font = (FONT..FONT_END).contains(&address);
-            let in_table = address.wrapping_sub(table) < 32;
+            let in_table = address.wrapping_sub(table) < TABLE_SIZE;
             !in_font && !in_table && self.made.line_of(address) == Some(number)
         })
     }
