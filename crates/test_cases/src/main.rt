@@ -30,7 +30,7 @@ use crate::case::Case;
 use crate::fault_texts::write_fault_texts;
 use crate::group::{Group, groups_of};
 use crate::outside::{write_files, write_streams};
-use crate::texts::write_refusals;
+use crate::texts::{write_exits, write_number, write_refusals};
 use std::fs;
 use vip_tools::demo_game;
 
@@ -164,6 +164,8 @@ fn main(rt: HostRuntime) -> anyhow::Result<()> {
     run_groups(&rt, &fs::read_to_string(&rt, "cases.txt")?)?;
     write_demo_game(&rt)?;
     write_refusals(&rt)?;
+    write_number(&rt)?;
+    write_exits(&rt)?;
     write_fault_texts(&rt)?;
     write_streams(&rt)?;
     write_files(&rt)

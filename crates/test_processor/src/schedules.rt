@@ -5,6 +5,8 @@
 
 use crate::Counts;
 use std::alloc::Global;
+use vip_board::{Board, Wire};
+use vip_keypad::Script;
 use vip_link::{Link, LinkFault, Side, check_link};
 
 /// The lengths of the messages under random schedules.
@@ -62,10 +64,11 @@ fn brought(link: &Link, sent: u32, received: &[u8]) -> bool {
     link.sent() == sent && link.received() == received
 }
 
-/// Tries the rows: no move, 1,000 moves of A alone, 160 pairs A, B, one byte too many, and both ROMs against their texts.
+/// Tries the rows: no move, 1,000 moves of A alone, 160 pairs A, B, a byte on a full wire, one byte too many, and both ROMs against their texts.
 pub fn rows(alloc: Global) -> Result<Counts, LinkFault> {
     let mut counts = Counts::none();
     try_alone(alloc, &mut counts)?;
+    counts.add(full_wire_keeps(alloc)?);
     counts.add(pairs_bring(alloc)?);
     counts.add(refuses_too_long(alloc)?);
     counts.add(check_link(alloc).is_ok());
@@ -81,6 +84,26 @@ fn try_alone(alloc: Global, counts: &mut Counts) -> Result<(), LinkFault> {
     }
     counts.add(brought(&link, 1, b""));
     Ok(())
+}
+
+/// Makes a move of a board with wires, at its start.
+fn move_linked(board: &mut Board, incoming: &mut Wire, outgoing: &mut Wire) {
+    if board.cpu().at_boundary() && board.now() < 100 {
+        board.make_linked(incoming, outgoing);
+    }
+}
+
+/// Whether a byte is lost that a board sends while its wire is full: it sends 41 and then 42, and doesn't look at EF4.
+fn full_wire_keeps(alloc: Global) -> Result<bool, LinkFault> {
+    let mut rom = [0; 0x800];
+    rom[..4].copy_from_slice(&[0x63, 0x41, 0x63, 0x42]);
+    let mut board = Board::reset(alloc, &rom, &Script::empty(alloc))?;
+    let mut incoming = Wire::new();
+    let mut outgoing = Wire::new();
+    for _move in 0..2 {
+        move_linked(&mut board, &mut incoming, &mut outgoing);
+    }
+    Ok(outgoing.full() == Some(0x41) && board.cpu().r(0) == 4)
 }
 
 /// Whether 160 pairs A, B bring the message.
