@@ -7,7 +7,8 @@ use Rattle.std.proofs.lemmas.List.{append_assoc, append-nil, length-append, leng
 use Rattle.std.proofs.lemmas.List.Concat.{flat_map-append}
 use Rattle.std.proofs.lemmas.List.Splits.{slice_split_none, slice_split_at, length-slice_split}
 use Rattle.asm_core.specs.Made.{Made, cell_at}
-use Rattle.asm_listing.specs.Dump.{Place, addresses, place_at, places_of, has_no_byte, is_some_run, runs, piece, pieces, byte_text, line_text, dump_of, dump_text, newline}
+use Rattle.vip_byte.specs.Text.{newline}
+use Rattle.asm_listing.specs.Dump.{Place, addresses, place_at, places_of, has_no_byte, is_some_run, runs, piece, pieces, byte_text, line_text, dump_of, dump_text}
 use Rattle.asm_listing.specs.Row.{bytes_text, row_before, row_text}
 use Rattle.vip_byte.specs.HexText.{hex2, hex4}
 use Rattle.asm_core.proofs.Cells.{length-range, get_or-range}

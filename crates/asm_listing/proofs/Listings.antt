@@ -17,7 +17,7 @@ use Rattle.asm_core.specs.Made.{Made, line_place, IsAssembly}
 use Rattle.asm_core.specs.Sources.{line_at, address_of, label_value, fault_2, fault_with, bytes_of, cell_in, cell_of, cell_before, overlaps}
 use Rattle.asm_core.proofs.PassTwo.{count_between, bytes_count, count_fits}
 use Rattle.vip_byte.specs.HexText.{hex2}
-use Rattle.asm_listing.specs.Dump.{newline}
+use Rattle.vip_byte.specs.Text.{newline}
 use Rattle.asm_listing.specs.Listing.{blanks, label_text, digits_of, three_at, further_line, further_lines, first_digits, number_text, line_listing, listed, lines_text}
 use Rattle.asm_listing.specs.Shown.{byte_count, byte_at, bytes_from}
 use Rattle.asm_core.proofs.Cells.{length-range, get_or-range}

@@ -3,7 +3,7 @@ use Rattle.std.proofs.Common.{◌≡◌, ◌+◌, ◌-◌, ◌≤◌, ℕ, zero,
 use Rattle.std.proofs.lemmas.List.{append_assoc, append-nil}
 use Rattle.asm_lex.specs.declared.shape.Isa.{Isa}
 use Rattle.asm_listing.specs.Disassembly.{taken, starts, ended_line, lines_from, disassembly, origin}
-use Rattle.asm_listing.specs.Dump.{newline}
+use Rattle.vip_byte.specs.Text.{newline}
 
 -- behind the bytes of the line before
 pub starts-behind : (isa : Isa) (bytes : List ℕ) (inside at : ℕ) → inside ≤ length bytes

@@ -26,7 +26,7 @@ use Rattle.asm_core.specs.Encoding.{encoded}
 use Rattle.asm_core.specs.Sources.{source_lines, Known, known_after, known_at, names_before, address_of, all_names, line_at, NoFault, fault_1, fault_2, fault_with, bytes_of, cell_in, cell_of, cell_before, overlaps}
 use Rattle.asm_core.proofs.Lines.{source_lines-empty, source_lines-next}
 use Rattle.asm_core.proofs.PassOne.{line_here, no_line, known_at-first, known_at-next}
-use Rattle.asm_listing.specs.Dump.{newline}
+use Rattle.vip_byte.specs.Text.{newline}
 use Rattle.asm_listing.specs.Disassembly.{taken, first_line, starts, lines_from, origin, disassembly, HasPlace}
 use Rattle.asm_listing.specs.WayBack.{byte_in, AssemblesTo}
 use Rattle.asm_core.proofs.Cells.{length-range, get_or-range}

@@ -7,7 +7,7 @@ use Rattle.asm_lex.specs.declared.shape.Isa.TheVariants.{Cdp1802, Chip8}
 use Rattle.asm_lex.specs.Words.{size_at}
 use Rattle.asm_lex.specs.Ranges.{origin_of, last_of}
 use Rattle.chip8_words.specs.Words.{opcode_words}
-use Rattle.asm_listing.specs.Dump.{newline}
+use Rattle.vip_byte.specs.Text.{newline}
 
 -- Below, `bytes` are those that stand from the address `at` on, and their instructions are of an instruction set.
 abbrev pub opcode_in : List ℕ → ℕ

@@ -3,10 +3,8 @@ use Rattle.std.specs.Prelude.{◌+◌, ◌*◌, ◌/◌, ◌==◌, ℕ, Bool, no
 use Rattle.std.specs.Option.{option_map_or}
 use Rattle.std.specs.List.{range_with_len, slice_split}
 use Rattle.vip_byte.specs.HexText.{hex2, hex4}
+use Rattle.vip_byte.specs.Text.{newline}
 use Rattle.asm_core.specs.Made.{Made, cell_at}
-
-abbrev pub newline : List ℕ
-newline = 10 ∷ []
 
 -- an address and its byte, or none where no line gives it one
 abbrev pub Place : Type 0

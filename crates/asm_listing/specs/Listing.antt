@@ -14,7 +14,7 @@ use Rattle.asm_core.specs.declared.layout.LabelValue.{LabelValue}
 use Rattle.asm_core.specs.declared.layout.LabelValue.TheVariants.{Address, Given}
 use Rattle.asm_lex.specs.Names.{value_in}
 use Rattle.asm_core.specs.Sources.{line_at, address_of, all_names, label_value, bytes_of}
-use Rattle.asm_listing.specs.Dump.{newline}
+use Rattle.vip_byte.specs.Text.{newline}
 
 abbrev pub blanks : ℕ → List ℕ
 blanks count = replicate count 32

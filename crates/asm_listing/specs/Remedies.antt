@@ -39,9 +39,9 @@ unfoldable pub foreign_number : List ℕ → Option (List ℕ)
 foreign_number text = option_map (λ digits. codes "hexadecimal is 0x" ++ digits) (option_or (digits_before_h (before_last 72 104 text)) (digits_behind_mark text))
 
 -- a character between quotes
-abbrev pub quoted : List ℕ → Option (List ℕ)
-quoted (first ∷ character ∷ last ∷ []) = if (first == 39) && (last == 39) then Some (codes "the character is 0x" ++ hex2 character) else None
-quoted _ = None
+abbrev pub character_of : List ℕ → Option (List ℕ)
+character_of (first ∷ character ∷ last ∷ []) = if (first == 39) && (last == 39) then Some (codes "the character is 0x" ++ hex2 character) else None
+character_of _ = None
 
 -- what stands between an opening, in letters of either case, and a parenthesis at the end
 abbrev pub behind_opening : List ℕ → Option (List ℕ) → Option (List ℕ)
@@ -96,5 +96,5 @@ unfoldable pub remedy : Isa → AsmCause → List ℕ → ℕ → List ℕ → O
 remedy isa BadText line from text = not_ascii text
 remedy isa UnknownMnemonic line from text = option_or (foreign_word isa text) (label_text text (missing_colon isa line))
 remedy isa BadOperand line from text =
-    option_or (foreign_number text) (option_or (quoted text) (option_or (half_of text) (bare_register isa line from text)))
+    option_or (foreign_number text) (option_or (character_of text) (option_or (half_of text) (bare_register isa line from text)))
 remedy isa _ line from text = None

@@ -9,7 +9,7 @@ use Rattle.asm_core.specs.declared.findings.Finding.{Finding}
 use Rattle.asm_core.specs.FaultNames.{asm_cause_name}
 use Rattle.asm_core.specs.Sources.{line_at}
 use Rattle.asm_core.specs.Told.{told, note_at}
-use Rattle.asm_listing.specs.Dump.{newline}
+use Rattle.vip_byte.specs.Text.{newline}
 use Rattle.asm_listing.specs.Remedies.{remedy}
 
 -- bytes as they stand, those outside 20 to 7E as \xC3

@@ -6,7 +6,7 @@ ghost use Rattle.vip_isa.specs.Texts.{instruction_text};
 ghost use Rattle.asm_lex.specs.Words.{size_at};
 ghost use Rattle.asm_listing.specs.Disassembly.{data_text, disassembly, ended_line, is_undefined, is_data, size_in, taken, text_in, word_in, HasPlace};
 ghost use Rattle.asm_core.specs.Sources.{source_lines};
-ghost use Rattle.asm_listing.specs.Dump.{newline};
+ghost use Rattle.vip_byte.specs.Text.{newline};
 ghost use Rattle.asm_listing.specs.WayBack.{AssemblesTo};
 
 use crate::write::append;

@@ -8,9 +8,9 @@ ghost use Rattle.std.specs.Option.{option_or};
 ghost use Rattle.std.specs.Str.{str_eq_ignore_ascii_case};
 ghost use Rattle.asm_lex.specs.Culprits.{missing_colon};
 ghost use Rattle.asm_lex.specs.Lines.{parsed};
-ghost use Rattle.asm_listing.specs.Remedies.{are_hex, before_last, digits_before_h, digits_behind_mark, foreign_number, quoted, behind_opening, half_of, with_r, bare_register, other_names, foreign_word, label_text, not_ascii, remedy};
+ghost use Rattle.asm_listing.specs.Remedies.{are_hex, before_last, digits_before_h, digits_behind_mark, foreign_number, character_of, behind_opening, half_of, with_r, bare_register, other_names, foreign_word, label_text, not_ascii, remedy};
 
-use crate::write::joined;
+use crate::write::join;
 use asm_core::AsmCause;
 use asm_lex::{Isa, Symbols, line, missing_colon};
 use std::alloc::{AllocError, Global};
@@ -70,15 +70,15 @@ fn foreign_number(alloc: Global, text: &[u8]) -> Remedy
             None => return Ok(None),
         },
     };
-    Ok(Some(joined(alloc, b"hexadecimal is 0x", digits)?))
+    Ok(Some(join(alloc, b"hexadecimal is 0x", digits)?))
 }
 
-fn quoted(alloc: Global, text: &[u8]) -> Remedy
-    ensures { IfOk result (λ remedy. option_map (λ remedy. remedy.items) remedy ≡ quoted text.now) }
+fn character_of(alloc: Global, text: &[u8]) -> Remedy
+    ensures { IfOk result (λ remedy. option_map (λ remedy. remedy.items) remedy ≡ character_of text.now) }
 {
     match text {
         [b'\'', character, b'\''] => {
-            Ok(Some(joined(alloc, b"the character is 0x", &hex2(*character))?))
+            Ok(Some(join(alloc, b"the character is 0x", &hex2(*character))?))
         }
         _ => Ok(None),
     }
@@ -127,10 +127,10 @@ fn half_of(alloc: Global, text: &[u8]) -> Remedy
     ensures { IfOk result (λ remedy. option_map (λ remedy. remedy.items) remedy ≡ half_of text.now) }
 {
     if let Some(name) = half("A.1(", "HIGH(", text) {
-        return Ok(Some(joined(alloc, b"the high byte is >", name)?));
+        return Ok(Some(join(alloc, b"the high byte is >", name)?));
     }
     if let Some(name) = half("A.0(", "LOW(", text) {
-        return Ok(Some(joined(alloc, b"the low byte is <", name)?));
+        return Ok(Some(join(alloc, b"the low byte is <", name)?));
     }
     Ok(None)
 }
@@ -160,7 +160,7 @@ fn bare_register(alloc: Global, isa: Isa, line: &[u8], from: usize, text: &[u8])
     match (isa, text) {
         (Isa::Cdp1802, [digit])
             if digit.is_ascii_hexdigit() && is_read_with_r(alloc, from, line)? => {
-            Ok(Some(joined(alloc, b"the register is R", &[*digit])?))
+            Ok(Some(join(alloc, b"the register is R", &[*digit])?))
         }
         _ => Ok(None),
     }
@@ -209,8 +209,8 @@ fn label_remedy(alloc: Global, isa: Isa, line: &[u8], word: &[u8]) -> Remedy
     if missing_colon(isa, line).is_none() {
         return Ok(None);
     }
-    let label = joined(alloc, word, b":")?;
-    Ok(Some(joined(alloc, b"a label is ", label.as_slice())?))
+    let label = join(alloc, word, b":")?;
+    Ok(Some(join(alloc, b"a label is ", label.as_slice())?))
 }
 
 fn word_remedy(alloc: Global, isa: Isa, line: &[u8], word: &[u8]) -> Remedy
@@ -236,12 +236,12 @@ fn ascii_remedy(alloc: Global, text: &[u8]) -> Remedy
 
 fn operand_remedy(alloc: Global, isa: Isa, line: &[u8], from: usize, text: &[u8]) -> Remedy
     ensures { IfOk result (λ remedy. option_map (λ remedy. remedy.items) remedy ≡
-        option_or (foreign_number text.now) (option_or (quoted text.now) (option_or (half_of text.now) (bare_register isa line.now from text.now)))) }
+        option_or (foreign_number text.now) (option_or (character_of text.now) (option_or (half_of text.now) (bare_register isa line.now from text.now)))) }
 {
     if let Some(remedy) = foreign_number(alloc, text)? {
         return Ok(Some(remedy));
     }
-    if let Some(remedy) = quoted(alloc, text)? {
+    if let Some(remedy) = character_of(alloc, text)? {
         return Ok(Some(remedy));
     }
     if let Some(remedy) = half_of(alloc, text)? {

@@ -27,7 +27,7 @@ fn append_byte(text: &mut Vec<u8>, byte: u8) -> Result<(), AllocError>
 }
 
 // Bytes as they stand, with those that aren't printable in hexadecimal.
-fn shown(alloc: Global, bytes: &[u8]) -> Result<Vec<u8>, AllocError>
+fn show(alloc: Global, bytes: &[u8]) -> Result<Vec<u8>, AllocError>
     ensures { IfOk result (λ text. text.items ≡ shown bytes.now) }
 {
     let mut text = Vec::new(alloc);
@@ -42,7 +42,7 @@ fn remark_of(alloc: Global, remark: Option<&[u8]>) -> Result<Vec<u8>, AllocError
 {
     let mut text = Vec::new(alloc);
     if let Some(remark) = remark {
-        let shown = shown(alloc, remark)?;
+        let shown = show(alloc, remark)?;
         append_each(&mut text, &[b" (", shown.as_slice(), b")"])?;
     }
     Ok(text)
@@ -63,7 +63,7 @@ fn append_line(
 {
     let mut line_digits = Digits::new();
     let mut column_digits = Digits::new();
-    let culprit = shown(alloc, culprit)?;
+    let culprit = show(alloc, culprit)?;
     let remark = remark_of(alloc, remark)?;
     append_each(
         text,

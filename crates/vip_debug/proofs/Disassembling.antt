@@ -12,7 +12,7 @@ use Rattle.vip_isa.specs.Texts.{instruction_text, operand_at}
 use Rattle.asm_lex.specs.Words.{size_at}
 use Rattle.asm_lex.specs.declared.shape.Isa.TheVariants.{Cdp1802}
 use Rattle.asm_listing.specs.Disassembly.{data_text, opcode_in, size_in, is_data, taken, first_line, ended_line, starts}
-use Rattle.asm_listing.specs.Dump.{newline}
+use Rattle.vip_byte.specs.Text.{newline}
 use Rattle.asm_listing.proofs.FirstLines.{taken_some, taken_within}
 use Rattle.asm_core.proofs.Cells.{length-range}
 use Rattle.asm_listing.proofs.Ranges.{drop-range}

@@ -1,7 +1,7 @@
 use Rattle.std.proofs.Common.{◌≡◌, ◌++◌, [], ◌∷◌, ap, sym, ◌∙◌, List, ℕ, arith, length, ◌-◌}
 use Rattle.std.proofs.lemmas.Bool.{eqb-false}
 use Rattle.vip_byte.specs.HexText.{hex4}
-use Rattle.asm_listing.specs.Dump.{newline}
+use Rattle.vip_byte.specs.Text.{newline}
 use Rattle.asm_listing.specs.Row.{bytes_text}
 use Rattle.asm_listing.proofs.Texts.{on_ok, all_appended}
 use Rattle.asm_listing.proofs.Dumps.{row_text-some}

@@ -3,7 +3,7 @@ use Rattle.std.specs.Prelude.{codes}
 use Rattle.std.proofs.lemmas.List.{take_rest, length-drop, get_or_default}
 use Rattle.std.proofs.lemmas.Bool.{eqb-true}
 use Rattle.asm_listing.specs.Disassembly.{taken, starts, lines_from, disassembly, origin, ended_line}
-use Rattle.asm_listing.specs.Dump.{newline}
+use Rattle.vip_byte.specs.Text.{newline}
 use Rattle.asm_listing.proofs.Starts.{lines-next, lines-none, disassembly-first}
 use Rattle.asm_core.specs.Sources.{source_lines}
 use Rattle.asm_listing.specs.WayBack.{AssemblesTo}

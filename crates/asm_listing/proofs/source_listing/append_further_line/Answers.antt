@@ -1,6 +1,6 @@
 use Rattle.std.proofs.Common.{◌≡◌, ◌+◌, ◌-◌, ◌*◌, ◌++◌, [], ◌∷◌, ℕ, min, sym, ap, ◌∙◌, arith}
 use Rattle.vip_byte.specs.HexText.{hex4}
-use Rattle.asm_listing.specs.Dump.{newline}
+use Rattle.vip_byte.specs.Text.{newline}
 use Rattle.asm_listing.specs.Listing.{blanks, digits_of, three_at}
 use Rattle.asm_listing.specs.Shown.{bytes_from}
 use Rattle.asm_listing.proofs.Texts.{on_ok, all_appended}

@@ -1,6 +1,6 @@
 use Rattle.std.proofs.Common.{◌≡◌, ◌++◌, drop}
 use Rattle.asm_listing.specs.Told.{shown}
-use Rattle.asm_listing.proofs.report_text.shown.Given as goal
+use Rattle.asm_listing.proofs.report_text.show.Given as goal
 
 -- what is left gives the rest of the text
 abbrev pub invariant-loop-byte : goal.invariant-loop-byte
