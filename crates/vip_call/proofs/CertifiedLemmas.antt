@@ -1,5 +1,5 @@
 -- What an accepted certificate shows: of a routine by its law, of a game by its law and that of every run.
-use Rattle.std.proofs.Common.{◌≡◌, ℕ, ◌+◌, ◌<◌, ◌≤◌, Bool, List, [], ◌∷◌, length, slice_index, None, refl, subst, sym}
+use Rattle.std.proofs.Common.{◌≡◌, ℕ, ◌+◌, ◌<◌, ◌≤◌, List, [], ◌∷◌, length, slice_index, None, ap, subst, sym}
 use Rattle.machine.specs.Board.{Machine}
 use Rattle.machine.specs.Keys.{Event as KeyEvent}
 use Rattle.chip8_lang.specs.declared.view.Edition.{Edition}
@@ -17,21 +17,16 @@ use Rattle.rom_board.specs.Laws.{EveryRun}
 use Rattle.rom_board.specs.Program.{numbered, program}
 use Rattle.chip8_image.specs.Interpreters.{interpreter_of}
 use Rattle.vip_words.specs.declared.request.Request.TheVariants as request
-use Rattle.vip_tools.specs.declared.status.Status.{Status}
-use Rattle.vip_tools.specs.Certificates.{CertifyComes, CyclesComes, SafeComes, TimingComes}
-use Rattle.vip_tools.specs.Certificates.CertifyComes.{Finds}
-use Rattle.vip_tools.specs.Certificates.CyclesComes.{Leaves}
-use Rattle.vip_tools.specs.Certificates.SafeComes.{Proves}
-use Rattle.vip_tools.specs.Certificates.TimingComes.{Times}
-use Rattle.vip_words.specs.declared.request.Entry.{Entry}
+use Rattle.vip_tools.specs.declared.status.Status.TheVariants.{Done}
 use Rattle.vip_tools.specs.Files.{Loaded, needed}
-use Rattle.vip_tools.specs.Outcome.{Outcome}
-use Rattle.vip_tools.specs.Outcome.Outcome.{Shown}
+use Rattle.vip_tools.specs.Judged.Verdict.{Given}
+use Rattle.vip_tools.specs.Outcome.{Output, Shown}
+use Rattle.vip_tools.proofs.JudgedLemmas.{same_value}
 use Rattle.vip_verbs.specs.Outcome.{HasOutcome}
-use Rattle.vip_call.specs.Certified.{Certifies, IsSafe, LeavesInTime, NoneStops, WritesCertificate, WritesTiming}
+use Rattle.vip_call.specs.Certified.{Certifies, IsSafe, NoneStops}
 use Rattle.vip_call.specs.Top.{Call, ProvesCertified}
 use Rattle.vip_call.proofs.FilledLemmas.{AreGiven, are_given}
-use Rattle.vip_call.proofs.GivenStarts.{game_so}
+use Rattle.vip_call.proofs.GivenStarts.{game_fits}
 
 -- ---- no event of a run is a stop
 
@@ -70,68 +65,48 @@ module _ (routines : AcceptedIsWithin) (games : CertifiedGames) (law : EveryRun)
 
   -- ---- a command
 
-  OfRoutine : List ℕ → List ℕ → Bool → Outcome → Type 0
-  OfRoutine source text exits (Shown pieces status report) = LeavesInTime source text exits pieces
-  OfRoutine source text exits _ = Unit {0}
+  written : (output : Output) (text : List ℕ) → Given output ≡ Shown (text ∷ []) Done [] → output.pieces ≡ text ∷ []
+  written output text is = ap (λ o. o.pieces) (same_value output _ is)
 
-  routine : (source text : List ℕ) (exits : Bool) (o : Outcome) → CyclesComes source text exits o → OfRoutine source text exits o
-  unfolding OfRoutine
-  routine source text exits _ (Leaves bound made is) = record { bound = bound; named = refl; leaves = routines _ text bound made.fits is }
-  routine source text exits _ _ = tt
-
-  OfTiming : List ℕ → Entry → ℕ → ℕ → Outcome → Type 0
-  OfTiming source entry p k (Shown pieces status report) = WritesTiming source entry p k pieces
-  OfTiming source entry p k _ = Unit {0}
-
-  timing : (source : List ℕ) (entry : Entry) (p k : ℕ) (o : Outcome) → TimingComes source entry p k o → OfTiming source entry p k o
-  unfolding OfTiming
-  timing source entry p k _ (Times made address text entered found fits) = record {
-    text = text;
-    written = refl;
-    made = made;
-    address = address;
-    entered = entered;
-    found = found;
-    leaves = routines _ text (record { entry = address; limit = found.bound.limit }) made.fits found.accepted;
-  }
-  timing source entry p k _ _ = tt
-
-  OfGame : Edition → List ℕ → Outcome → Type 0
-  OfGame e game (Shown pieces status report) = IsSafe e game
-  OfGame e game _ = Unit {0}
-
-  proof :
-      (e : Edition) (game text : List ℕ) → length game ≤ memory_size e → ((i : ℕ) → slice_index game i < 256) → (o : Outcome) → SafeComes e game text o
-      → OfGame e game o
-  unfolding OfGame
-  proof e game text fits bytes _ (Proves count is) = is_safe e game text fits bytes (record { count = count; is = is })
-  proof e game text fits bytes _ _ = tt
-
-  OfSearch : Edition → List ℕ → Outcome → Type 0
-  OfSearch e game (Shown pieces status report) = WritesCertificate e game pieces
-  OfSearch e game _ = Unit {0}
-
-  search :
-      (e : Edition) (game : List ℕ) → length game ≤ memory_size e → ((i : ℕ) → slice_index game i < 256) → (o : Outcome) → CertifyComes e game o
-      → OfSearch e game o
-  unfolding OfSearch
-  search e game fits bytes _ (Finds text accepted small) =
-      record { text = text; written = refl; accepted = accepted; safe = is_safe e game text fits bytes accepted }
-  search e game fits bytes _ _ = tt
-
-  shows : (loaded : Loaded) (pieces : List (List ℕ)) (status : Status) (report : List ℕ) → AreGiven (needed loaded)
-      → HasOutcome loaded (Shown pieces status report) → Certifies loaded pieces
-  unfolding OfRoutine OfTiming OfGame OfSearch
-  shows (request.Cycles source certificate exits) pieces status report given comes = routine source certificate exits (Shown pieces status report) comes
-  shows (request.Timing source entry p k) pieces status report given comes = timing source entry p k (Shown pieces status report) comes
-  shows (request.Safe code certificate edition) pieces status report given comes =
-      game_so edition (λ game. SafeComes edition game certificate) (λ game. IsSafe edition game) pieces status report
-      (λ game fits bytes here. proof edition game certificate fits bytes (Shown pieces status report) here) code given.0 comes
-  shows (request.Certify code edition) pieces status report given comes =
-      game_so edition (CertifyComes edition) (λ game. WritesCertificate edition game pieces) pieces status report
-      (λ game fits bytes here. search edition game fits bytes (Shown pieces status report) here) code given.0 comes
-  shows _ pieces status report given comes = tt
+  shows : (loaded : Loaded) (output : Output) → AreGiven (needed loaded) → HasOutcome loaded (Given output) → Certifies loaded output.pieces
+  shows (request.Cycles source certificate exits) output given comes =
+      let routine = comes.here in
+      record { bound = routine.value; named = written output _ routine.here; leaves = routines _ certificate routine.value comes.value.fits routine.gives }
+  shows (request.Timing source entry p k) output given comes =
+      let at = comes.here in
+      let found = at.here in
+      record {
+        text = found.value;
+        written = written output _ found.here;
+        made = comes.value;
+        address = at.value;
+        entered = at.gives;
+        found = found.gives.0;
+        leaves = routines _ found.value (record { entry = at.value; limit = found.gives.0.bound.limit }) comes.value.fits found.gives.0.accepted;
+      }
+  shows (request.Safe code certificate edition) output given comes =
+      let game = game_fits edition code given.0 comes.value comes.gives in
+      record {
+        value = comes.value;
+        gives = comes.gives;
+        here = is_safe edition comes.value certificate game.fits game.bytes (record { count = comes.here.value; is = comes.here.gives });
+      }
+  shows (request.Certify code edition) output given comes =
+      let game = game_fits edition code given.0 comes.value comes.gives in
+      let found = comes.here in
+      record {
+        value = comes.value;
+        gives = comes.gives;
+        here =
+            record {
+              text = found.value;
+              written = written output _ found.here;
+              accepted = found.gives.0;
+              safe = is_safe edition comes.value found.value game.fits game.bytes found.gives.0;
+            };
+      }
+  shows _ output given comes = tt
 
   pub proves_certified : (call : Call) → ProvesCertified call
   proves_certified call asked loaded pieces status report asks comes =
-      shows loaded pieces status report (are_given call.files asked loaded asks.shape asks.read) comes
+      shows loaded (record { pieces = pieces; status = status; report = report }) (are_given call.files asked loaded asks.shape asks.read) comes

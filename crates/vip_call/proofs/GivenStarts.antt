@@ -1,58 +1,59 @@
 -- Where a run begins that was loaded, its game fits into its edition's memory, and its file is accepted.
-use Rattle.std.proofs.Common.{◌≡◌, ◌≤◌, ◌<◌, ℕ, List, ◌++◌, length, slice_index, refl, arith}
+use Rattle.std.proofs.Common.{◌≤◌, ◌<◌, ℕ, List, ◌++◌, length, slice_index, sym, subst, arith}
 use Rattle.chip8_lang.specs.State.{memory_size}
 use Rattle.chip8_lang.specs.declared.view.Edition.{Edition}
-use Rattle.chip8_lang.specs.declared.view.Edition.TheVariants.{Usual}
 use Rattle.vip_relation.specs.Follows.{Fits}
 use Rattle.vip_relation.specs.State.{Start}
-use Rattle.vip_relation.specs.State.Start.{Reset, Saved}
 use Rattle.vip_words.specs.declared.request.Code.{Code}
 use Rattle.vip_words.specs.declared.request.Code.TheVariants.{Bytes, Source}
 use Rattle.vip_words.specs.declared.request.Start as asked
 use Rattle.vip_words.specs.declared.request.Start.TheVariants as beginning
-use Rattle.vip_tools.specs.Code.{GameComes, OfGame, SourceGame}
-use Rattle.vip_tools.specs.Code.SourceGame.{FaultyGame, LargeGame, FitGame}
-use Rattle.vip_tools.specs.Demo.{demo_game}
+use Rattle.vip_tools.specs.Code.{GameComes}
 use Rattle.vip_tools.specs.Files.{Needed, game_code, start_files}
-use Rattle.vip_tools.specs.Outcome.{Outcome}
-use Rattle.vip_tools.specs.Outcome.Outcome.{Shown}
-use Rattle.vip_tools.specs.declared.status.Status.{Status}
+use Rattle.vip_tools.specs.Judged.{bind}
+use Rattle.vip_tools.specs.Judged.Verdict.{Given}
+use Rattle.vip_tools.specs.Outcome.{Output}
+use Rattle.vip_tools.specs.Judged.{Judged}
 use Rattle.vip_tools.proofs.DemoLemmas.{length-game, bytes-game}
-use Rattle.vip_verbs.specs.Outcome.{Begins, OfRun}
+use Rattle.vip_verbs.specs.Outcome.{OfRun, RunStart, StartComes}
 use Rattle.vip_call.specs.Transcribed.{From}
 use Rattle.vip_call.proofs.FilledLemmas.{AreGiven, IsGiven}
 
--- what was shown of code was shown of the game that it gives, which fits
-pub game_so :
-    (e : Edition) (Here : List ℕ → Outcome → Type 0) (There : List ℕ → Type 0) (pieces : List (List ℕ)) (status : Status) (report : List ℕ)
-    → ((game : List ℕ) → length game ≤ memory_size e → ((i : ℕ) → slice_index game i < 256) → Here game (Shown pieces status report) → There game)
-    → (code : Code (List ℕ)) → IsGiven (game_code e code) → GameComes e code Here (Shown pieces status report) → OfGame code There
-game_so e Here There pieces status report goes (Bytes game) given here = goes game given.fits given.bytes here
-game_so e Here There pieces status report goes (Source text) given here = go (Shown pieces status report) refl here
-  where
-    go : (o : Outcome) → o ≡ Shown pieces status report → SourceGame e text Here o → OfGame (Source text) There
-    go _ h (FaultyGame line cause is) = absurd (cc)
-    go _ h (LargeGame game gives large) = absurd (cc)
-    go o h (FitGame game _ gives fits at) = record { game = game; gives = gives; here = goes game fits gives.raw.bytes (rw h at at) }
+-- a game of bytes that fits
+pub record FitsGame (e : Edition) (game : List ℕ) : Type 0 where
+  pub fits : length game ≤ memory_size e
+  pub bytes : (i : ℕ) → slice_index game i < 256
 
-module _ (pieces : List (List ℕ)) (status : Status) (report : List ℕ) (Here : Edition → Start → Outcome → Type 0) (There : Edition → Start → Type 0)
-    (goes : (e : Edition) (s : Start) → Fits e s → Here e s (Shown pieces status report) → There e s) where
-  pub begun_so :
-      (start : asked.Start (List ℕ)) (others : List (Needed (List ℕ))) → AreGiven (start_files start ++ others)
-      → Begins start Here (Shown pieces status report) → OfRun start There
-  begun_so (beginning.Game code edition) others given here =
-      game_so edition (λ game. Here edition (Reset game)) (λ game. There edition (Reset game)) pieces status report
-      (λ game fits bytes at. goes edition (Reset game) (record { bytes = bytes; fits = fits }) at) code given.0 here
-  begun_so (beginning.State file) others given here = record {
-    edition = here.edition;
-    accepted = here.accepted;
-    here = goes here.edition (Saved file) (record { bytes = given.0.bytes; accepted = here.accepted }) here.here;
-  }
-  begun_so (beginning.Demo number) others given here =
-      goes Usual (Reset (demo_game number)) (record { bytes = bytes-game number; fits = omega (arith, length-game number) }) here
+pub game_fits : (e : Edition) (code : Code (List ℕ)) → IsGiven (game_code e code) → (game : List ℕ) → GameComes e code (Given game) → FitsGame e game
+game_fits e (Bytes file) given game comes = subst (FitsGame e) (sym comes) (record { fits = given.fits; bytes = given.bytes })
+game_fits e (Source text) given game comes = record { fits = comes.here.fits; bytes = comes.here.raw.bytes }
+
+pub start_fits : (start : asked.Start (List ℕ)) (others : List (Needed (List ℕ))) → AreGiven (start_files start ++ others) → (s : RunStart)
+    → StartComes start (Given s) → Fits s.edition s.start
+start_fits (beginning.Game code edition) others given s comes =
+    let game = game_fits edition code given.0 comes.value comes.gives in
+    subst (λ s. Fits s.edition s.start) (sym comes.here) (record { bytes = game.bytes; fits = game.fits })
+start_fits (beginning.State file) others given s comes =
+    subst (Fits s.edition) (sym comes.saved) (record { bytes = given.0.bytes; accepted = comes.accepted })
+start_fits (beginning.Demo number) others given s comes =
+    subst (λ s. Fits s.edition s.start) (sym comes) (record { bytes = bytes-game number; fits = omega (arith, length-game number) })
+
+-- what was shown of a run was shown of its edition and its start
+pub begun_so :
+    (output : Output) (Here : Edition → Start → Judged Output) (There : Edition → Start → Type 0)
+    → ((e : Edition) (s : Start) → Fits e s → Here e s (Given output) → There e s)
+    → (start : asked.Start (List ℕ)) (others : List (Needed (List ℕ))) → AreGiven (start_files start ++ others)
+    → bind (StartComes start) (λ s. Here s.edition s.start) (Given output) → OfRun start There
+begun_so output Here There goes start others given comes = record {
+  value = comes.value;
+  gives = comes.gives;
+  here = goes comes.value.edition comes.value.start (start_fits start others given comes.value comes.gives) comes.here;
+}
 
 -- byte 5 of an accepted file names its edition
 pub from_start : (Here : Edition → Start → Type 0) (start : asked.Start (List ℕ)) → OfRun start Here → From start Here
-from_start Here (beginning.Game code edition) here = here
-from_start Here (beginning.State file) here = record { edition = here.edition; named = here.accepted.edition; here = here.here }
-from_start Here (beginning.Demo number) here = here
+from_start Here (beginning.Game code edition) of =
+    record { value = of.gives.value; gives = of.gives.gives; here = subst (λ s. Here s.edition s.start) of.gives.here of.here }
+from_start Here (beginning.State file) of =
+    record { edition = of.value.edition; named = of.gives.accepted.edition; here = subst (Here of.value.edition) of.gives.saved of.here }
+from_start Here (beginning.Demo number) of = subst (λ s. Here s.edition s.start) of.gives of.here

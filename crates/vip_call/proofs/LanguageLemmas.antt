@@ -1,5 +1,5 @@
 -- The run from a start is a run of CHIP-8 with its ending, by the law of every run.
-use Rattle.std.proofs.Common.{◌≡◌, ◌⊎◌, ℕ, List, [], ◌∷◌, ◌++◌, Bool, Option, Some, None, Result, Ok, Err, refl, inl, inr, ◌∙◌}
+use Rattle.std.proofs.Common.{◌≡◌, ◌⊎◌, ℕ, List, [], ◌∷◌, ◌++◌, Option, Some, None, Ok, ap, refl, inl, inr, ◌∙◌}
 use Rattle.machine.specs.Board.{Machine}
 use Rattle.machine.specs.Keys.{Event as KeyEvent}
 use Rattle.machine.specs.Pictures.{windows_ended}
@@ -20,23 +20,19 @@ use Rattle.vip_show.specs.StateOutput.{saved_file}
 use Rattle.vip_text.specs.Endings.{Ending}
 use Rattle.vip_text.specs.Endings.Ending.{AtLimit}
 use Rattle.vip_text.specs.StateFile.{shown}
-use Rattle.vip_words.specs.DebugGrammar.{commands_of}
-use Rattle.vip_words.specs.Spoken.{Spoken}
-use Rattle.vip_words.specs.declared.debug_commands.Speaks.TheVariants.{Chip8}
-use Rattle.vip_words.specs.declared.debug_commands.CommandFault.{CommandFault}
-use Rattle.vip_words.specs.declared.debug_commands.CommandFault.TheVariants as fault
 use Rattle.vip_words.specs.declared.request.Request.TheVariants as request
 use Rattle.vip_words.specs.declared.request.Show.{Show}
 use Rattle.vip_words.specs.declared.request.Show.TheVariants as show
 use Rattle.vip_tools.specs.Files.{Loaded, needed, script_files, show_files}
 use Rattle.vip_call.specs.Language.{named, IsChip8, IsEndOf, RunIsChip8, ShowsChip8}
-use Rattle.vip_tools.specs.Outcome.{Outcome}
-use Rattle.vip_tools.specs.Outcome.Outcome.{Refused, Shown, GivenUp}
+use Rattle.vip_tools.specs.Judged.Verdict.{Given}
+use Rattle.vip_tools.specs.Outcome.{Output, script_in}
+use Rattle.vip_tools.specs.Report.{end_report}
+use Rattle.vip_tools.specs.Status.{end_status}
+use Rattle.vip_tools.proofs.JudgedLemmas.{same_value}
 use Rattle.vip_tools.specs.Code.{Known}
-use Rattle.vip_verbs.specs.Outcome.{known_in, HasOutcome, RunTo, DebugComes, ShowComes, run_of, events_in, ran, run_ending, debug_ending, limit_from, saved_as}
-use Rattle.vip_verbs.specs.Outcome.RunTo.{FaultyScript, FaultyRom, Runs}
+use Rattle.vip_verbs.specs.Outcome.{known_in, HasOutcome, RunTo, ShowComes, run_of, events_in, ran, run_ending, debug_ending, limit_from, saved_as}
 use Rattle.vip_call.specs.Top.{Call, SpeaksChip8}
-use Rattle.vip_tools.specs.declared.status.Status.{Status}
 use Rattle.vip_call.proofs.DebugLemmas.{debug_ends}
 use Rattle.vip_call.proofs.FilledLemmas.{AreGiven, are_given}
 use Rattle.vip_call.proofs.GivenStarts.{begun_so}
@@ -76,94 +72,67 @@ module _ (law : EveryRun) (from : FromFile) (frames : EveryFrame) (frames_from :
   keeps_frames e (Reset game) fits script = frames e game fits.fits fits.bytes script
   keeps_frames e (Saved f) fits script = frames_from e f fits.bytes fits.accepted script
 
-  module _ (e : Edition) (s : Start) (fits : Fits e s) (keys : Option (List ℕ)) (limit : ℕ) (asked_show : Show (List ℕ)) where
-    -- what comes to output
-    Of : Outcome → Type 0
-    Of (Refused status report) = Unit {0}
-    Of (GivenUp report) = Unit {0}
-    Of (Shown pieces status report) = RunIsChip8 e s keys limit asked_show status report
+  module _ (e : Edition) (s : Start) (fits : Fits e s) (keys : Option (List ℕ)) (limit : ℕ) (asked_show : Show (List ℕ)) (output : Output) where
+    -- the end that is told
+    told_run :
+        (script : List KeyEvent) → script_in keys ≡ Ok script → (pieces : List (List ℕ)) (told : Ending) → IsEndOf asked_show (run_ending e s script limit) told
+        → Given output ≡ ran limit pieces told → RunIsChip8 e s keys limit asked_show output.status output.report
+    told_run script reads pieces told ends is =
+        let same = same_value output (record { pieces = pieces; status = end_status told; report = end_report limit told }) is in
+        record {
+          script = script;
+          reads = reads;
+          run = is_chip8 law from e s fits script limit;
+          frames = keeps_frames e s fits script;
+          reported = told;
+          ends = ends;
+          status_is = ap (λ o. o.status) same;
+          report_is = ap (λ o. o.report) same;
+        }
 
-    -- with the end that is told
     shows_run :
         (pieces : List KeyEvent → List (List ℕ)) (told : List KeyEvent → Ending)
-        → ((script : List KeyEvent) → IsEndOf asked_show (run_ending e s script limit) (told script)) → (o : Outcome)
-        → RunTo e keys (λ script. ran limit (pieces script) (told script)) o → Of o
-    unfolding Of
-    shows_run pieces told ends _ (FaultyScript line cause is) = tt
-    shows_run pieces told ends _ (FaultyRom script fault is fault_is rom) = tt
-    shows_run pieces told ends _ (Runs script is rom) = record {
-      script = script;
-      reads = is;
-      run = is_chip8 law from e s fits script limit;
-      frames = keeps_frames e s fits script;
-      reported = told script;
-      ends = ends script;
-      status_is = refl;
-      report_is = refl;
-    }
+        → ((script : List KeyEvent) → IsEndOf asked_show (run_ending e s script limit) (told script))
+        → RunTo e keys (λ script. ran limit (pieces script) (told script)) (Given output) → RunIsChip8 e s keys limit asked_show output.status output.report
+    shows_run pieces told ends comes = told_run comes.value comes.gives (pieces comes.value) (told comes.value) (ends comes.value) comes.here.here
 
     -- what is saved
     shows_saved :
-        ((script : List KeyEvent) → IsEndOf asked_show (run_ending e s script limit) (run_ending e s script limit)) → (o : Outcome)
-        → RunTo e keys (λ script. saved_as limit (run_ending e s script limit) (saved_file e (events_in e s script limit))) o → Of o
-    unfolding Of
-    shows_saved ends _ (FaultyScript line cause is) = tt
-    shows_saved ends _ (FaultyRom script fault is fault_is rom) = tt
-    shows_saved ends _ (Runs script is rom) = go (saved_file e (events_in e s script limit))
-      where
-        go : (file : Option (List ℕ)) → Of (saved_as limit (run_ending e s script limit) file)
-        go None = tt
-        go (Some file) = record {
-          script = script;
-          reads = is;
-          run = is_chip8 law from e s fits script limit;
-          frames = keeps_frames e s fits script;
-          reported = run_ending e s script limit;
-          ends = ends script;
-          status_is = refl;
-          report_is = refl;
-        }
+        (script : List KeyEvent) → script_in keys ≡ Ok script → IsEndOf asked_show (run_ending e s script limit) (run_ending e s script limit)
+        → (file : Option (List ℕ)) → Given output ≡ saved_as limit (run_ending e s script limit) file
+        → RunIsChip8 e s keys limit asked_show output.status output.report
+    shows_saved script reads ends None is = absurd (cc)
+    shows_saved script reads ends (Some file) is = told_run script reads (file ∷ []) (run_ending e s script limit) ends is
 
-  shows_debug :
-      (labels : List (ℕ × List ℕ)) (e : Edition) (s : Start) (fits : Fits e s) (keys : Option (List ℕ)) (limit : ℕ) (text : List ℕ) (echo : Bool)
-      (read : Result (List Spoken) CommandFault) (o : Outcome)
-      → DebugComes labels e s keys limit read o → Of e s fits keys limit (show.Commands text echo) o
-  unfolding Of
-  shows_debug labels e s fits keys limit text echo (Ok commands) o comes =
-      shows_run e s fits keys limit (show.Commands text echo) _ (λ script. debug_ending (begun e s script) (limit_from s limit) commands)
-      (λ script. ends script (debug_ends e s script (begins-running e s fits) (limit_from s limit) (late_limit s limit) commands)) o comes
+  shows_as :
+      (known : Known) (e : Edition) (s : Start) (fits : Fits e s) (keys : Option (List ℕ)) (limit : ℕ) (shown_as : Show (List ℕ)) (output : Output)
+      → ShowComes known e s keys limit shown_as (Given output) → RunIsChip8 e s keys limit shown_as output.status output.report
+  shows_as known e s fits keys limit (show.Trace with_time with_words with_screen) output comes =
+      shows_run e s fits keys limit (show.Trace with_time with_words with_screen) output _ _ (λ script. refl) comes
+  shows_as known e s fits keys limit show.Pictures output comes = shows_run e s fits keys limit show.Pictures output _ _ (λ script. refl) comes
+  shows_as known e s fits keys limit (show.Commands text echo) output comes =
+      let commands = comes.value in
+      shows_run e s fits keys limit (show.Commands text echo) output _ (λ script. debug_ending (begun e s script) (limit_from s limit) commands)
+      (λ script. ends script (debug_ends e s script (begins-running e s fits) (limit_from s limit) (late_limit s limit) commands)) comes.here
     where
       ends :
           (script : List KeyEvent)
-          → let z = debug_ending (begun e s script) (limit_from s limit) commands in
+          → let z = debug_ending (begun e s script) (limit_from s limit) comes.value in
           (z ≡ AtLimit) ⊎ (z ≡ run_ending e s script (limit_from s limit)) → (z ≡ AtLimit) ⊎ (z ≡ run_ending e s script limit)
       ends script (inl is) = inl is
       ends script (inr is) = inr (is ∙ same_ending e s script limit)
-  shows_debug labels e s fits keys limit text echo (Err (fault.Fault line cause)) o comes = rw comes tt
-  shows_debug labels e s fits keys limit text echo (Err fault.NoMemory) o comes = absurd comes
+  shows_as known e s fits keys limit show.State output comes =
+      shows_saved e s fits keys limit show.State output comes.value comes.gives refl (saved_file e (events_in e s comes.value limit)) comes.here.here
+  shows_as known e s fits keys limit show.Profile output comes = shows_run e s fits keys limit show.Profile output _ _ (λ script. refl) comes
+  shows_as known e s fits keys limit (show.Summary number) output comes = shows_run e s fits keys limit (show.Summary number) output _ _ (λ script. refl) comes
 
-  shows_as :
-      (known : Known) (e : Edition) (s : Start) (fits : Fits e s) (keys : Option (List ℕ)) (limit : ℕ) (shown_as : Show (List ℕ)) (o : Outcome)
-      → ShowComes known e s keys limit shown_as o → Of e s fits keys limit shown_as o
-  shows_as known e s fits keys limit (show.Trace with_time with_words with_screen) o comes =
-      shows_run e s fits keys limit (show.Trace with_time with_words with_screen) _ _ (λ script. refl) o comes
-  shows_as known e s fits keys limit show.Pictures o comes = shows_run e s fits keys limit show.Pictures _ _ (λ script. refl) o comes
-  shows_as known e s fits keys limit (show.Commands text echo) o comes =
-      shows_debug known.labels e s fits keys limit text echo (commands_of Chip8 known.names echo limit text) o comes
-  shows_as known e s fits keys limit show.State o comes = shows_saved e s fits keys limit show.State (λ script. refl) o comes
-  shows_as known e s fits keys limit show.Profile o comes = shows_run e s fits keys limit show.Profile _ _ (λ script. refl) o comes
-  shows_as known e s fits keys limit (show.Summary number) o comes = shows_run e s fits keys limit (show.Summary number) _ _ (λ script. refl) o comes
-
-  shows :
-      (loaded : Loaded) (pieces : List (List ℕ)) (status : Status) (report : List ℕ) → AreGiven (needed loaded) → HasOutcome loaded (Shown pieces status report)
-      → ShowsChip8 loaded status report
-  unfolding Of
-  shows (request.Run run) pieces status report given comes =
-      begun_so pieces status report (λ e s. ShowComes (known_in run.start) e s run.keys run.limit run.show) (λ e s. RunIsChip8 e s run.keys run.limit run.show status report)
-      (λ e s fits comes. shows_as _ e s fits run.keys run.limit run.show (Shown pieces status report) comes)
+  shows : (loaded : Loaded) (output : Output) → AreGiven (needed loaded) → HasOutcome loaded (Given output) → ShowsChip8 loaded output.status output.report
+  shows (request.Run run) output given comes =
+      begun_so output (λ e s. ShowComes (known_in run.start) e s run.keys run.limit run.show) (λ e s. RunIsChip8 e s run.keys run.limit run.show output.status output.report)
+      (λ e s fits comes. shows_as _ e s fits run.keys run.limit run.show output comes)
       run.start (show_files run.show ++ script_files run.keys) given comes
-  shows _ pieces status report given comes = tt
+  shows _ output given comes = tt
 
   pub speaks_chip8 : (call : Call) → SpeaksChip8 call
   speaks_chip8 call asked loaded pieces status report asks comes =
-      shows loaded pieces status report (are_given call.files asked loaded asks.shape asks.read) comes
+      shows loaded (record { pieces = pieces; status = status; report = report }) (are_given call.files asked loaded asks.shape asks.read) comes

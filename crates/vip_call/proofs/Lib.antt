@@ -8,8 +8,8 @@ mod MetLemmas
 mod DebuggedLemmas
 mod TimedLemmas
 mod TranscribedLemmas
+mod Outcomes
 mod TopLemmas
-mod GivenLemmas
 mod SavedLemmas
 mod ResumedLemmas
 mod CertifiedLemmas

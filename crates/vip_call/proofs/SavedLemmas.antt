@@ -1,5 +1,5 @@
 -- What was saved of a run goes on as that run, by the law of runs that are joined and by that of the debugger's commands behind a dispatch point.
-use Rattle.std.proofs.Common.{◌≡◌, ℕ, ◌≤◌, Bool, List, [], ◌∷◌, ◌++◌, Option, Some, None, append_assoc, append-nil, refl, sym, ap, ap₂, subst, subst₂, ◌∙◌, arith}
+use Rattle.std.proofs.Common.{◌≡◌, ℕ, ◌≤◌, Bool, List, [], ◌∷◌, ◌++◌, Ok, Option, Some, None, append_assoc, append-nil, refl, sym, ap, ap₂, subst, subst₂, ◌∙◌, arith}
 use Rattle.std.specs.Prelude.{if◌then◌else◌}
 use Rattle.std.specs.Option.{option_map}
 use Rattle.std.proofs.lemmas.Grind.{flat_map-append}
@@ -33,12 +33,13 @@ use Rattle.vip_words.specs.declared.request.Request.TheVariants as request
 use Rattle.vip_words.specs.declared.request.Show.{Show}
 use Rattle.vip_words.specs.declared.request.Show.TheVariants as show
 use Rattle.vip_tools.specs.Files.{Loaded, needed, script_files, show_files}
-use Rattle.vip_tools.specs.Outcome.{Outcome}
-use Rattle.vip_tools.specs.Outcome.Outcome.{Shown}
-use Rattle.vip_tools.specs.declared.status.Status.{Status}
+use Rattle.vip_tools.specs.Judged.Verdict.{Given}
+use Rattle.vip_tools.specs.Outcome.{Outcome, Output, script_in}
+use Rattle.vip_tools.specs.Report.{end_report}
+use Rattle.vip_tools.specs.Status.{end_status}
+use Rattle.vip_tools.proofs.JudgedLemmas.{behind-each, same_value}
 use Rattle.vip_tools.specs.Code.{Known, nothing_known}
-use Rattle.vip_verbs.specs.Outcome.{known_in, HasOutcome, RunTo, ShowComes, ending_where, events_in, events_shown, limit_from, ran, run_ending, run_of, saved_as, stopped_by}
-use Rattle.vip_verbs.specs.Outcome.RunTo.{FaultyScript, FaultyRom, Runs as RunsSo}
+use Rattle.vip_verbs.specs.Outcome.{known_in, HasOutcome, IsSavedIn, ShowComes, ending_where, events_in, events_shown, limit_from, ran, run_ending, run_of, saved_as, stopped_by}
 use Rattle.vip_call.specs.Saved.{Continues, GoesOn, GoesOnAsRun, IsSaved, SavesOne}
 use Rattle.vip_call.specs.Top.{Call, ContinuesSaved}
 use Rattle.vip_relation.proofs.Beginning.{begins-running}
@@ -222,64 +223,51 @@ module _ (joins : SavedJoins) (commands_behind : GoesOnBehind) where
       → HasOutcome (request.Run (record { start = beginning.State file; keys = other; limit = later; show = shown_as })) o
       → ShowComes nothing_known e (Saved file) other later shown_as o
   comes_so e file accepted other later shown_as o x =
-      subst (λ d. ShowComes nothing_known d (Saved file) other later shown_as o) (one_edition x.edition e file x.accepted accepted) x.here
+      let at = behind-each (IsSavedIn file) (λ s. ShowComes nothing_known s.edition s.start other later shown_as) o x in
+      subst (λ d. ShowComes nothing_known d (Saved file) other later shown_as o) (one_edition at.value.edition e file at.gives.accepted accepted)
+      (subst (λ s. ShowComes nothing_known at.value.edition s other later shown_as o) at.gives.saved at.here)
 
   -- ---- a command
 
-  saves_one :
-      (e : Edition) (s : Start) → Fits e s → (keys : Option (List ℕ)) (limit : ℕ) (pieces : List (List ℕ)) (status : Status) (report : List ℕ)
-      → RunTo e keys (λ script. saved_as limit (run_ending e s script limit) (saved_file e (events_in e s script limit))) (Shown pieces status report)
-      → SavesOne e s keys limit pieces
-  saves_one e s fits keys limit pieces status report x = go (Shown pieces status report) refl x
-    where
-      go :
-          (o : Outcome) → o ≡ Shown pieces status report
-          → RunTo e keys (λ script. saved_as limit (run_ending e s script limit) (saved_file e (events_in e s script limit))) o
-          → SavesOne e s keys limit pieces
-      go _ h (FaultyScript line cause y) = absurd (cc)
-      go _ h (FaultyRom script fault y is rom) = absurd (cc)
-      go _ h (RunsSo script reads rom) = by_file (saved_file e (events_in e s script limit)) refl h
-        where
-          by_file :
-              (f : Option (List ℕ)) → saved_file e (events_in e s script limit) ≡ f
-              → saved_as limit (run_ending e s script limit) f ≡ Shown pieces status report
-              → SavesOne e s keys limit pieces
-          by_file None is h = absurd (cc)
-          by_file (Some file) is h =
-              let same : file ∷ [] ≡ pieces = cc in
-              record { file = file; written = sym same; goes_on = λ few. goes_on_as few }
-            where
-              goes_on_as : limit ≤ most_cycles → GoesOnAsRun e s keys limit file
-              goes_on_as few =
-                  let x = joins e s fits script limit few file is in
-                  record {
-                    accepted = x.accepted;
-                    script = script;
-                    reads = reads;
-                    shows = x.shows;
-                    rest = λ other later agree behind.
-                        goes_on e s fits script limit few file is other later agree behind;
-                    comes = comes_so e file x.accepted;
-                  }
+  module _ (e : Edition) (s : Start) (fits : Fits e s) (keys : Option (List ℕ)) (limit : ℕ) (output : Output) where
+    saves_one :
+        (script : List KeyEvent) → script_in keys ≡ Ok script → (f : Option (List ℕ)) → saved_file e (events_in e s script limit) ≡ f
+        → Given output ≡ saved_as limit (run_ending e s script limit) f → SavesOne e s keys limit output.pieces
+    saves_one script reads None is h = absurd (cc)
+    saves_one script reads (Some file) is h =
+        let ending = run_ending e s script limit in
+        record {
+          file = file;
+          written = ap (λ o. o.pieces) (same_value output (record { pieces = file ∷ []; status = end_status ending; report = end_report limit ending }) h);
+          goes_on = λ few. goes_on_as few;
+        }
+      where
+        goes_on_as : limit ≤ most_cycles → GoesOnAsRun e s keys limit file
+        goes_on_as few =
+            let x = joins e s fits script limit few file is in
+            record {
+              accepted = x.accepted;
+              script = script;
+              reads = reads;
+              shows = x.shows;
+              rest = λ other later agree behind. goes_on e s fits script limit few file is other later agree behind;
+              comes = comes_so e file x.accepted;
+            }
 
   is_saved :
-      (known : Known) (e : Edition) (s : Start) → Fits e s → (keys : Option (List ℕ)) (limit : ℕ) (shown_as : Show (List ℕ)) (pieces : List (List ℕ)) (status : Status)
-      (report : List ℕ) → ShowComes known e s keys limit shown_as (Shown pieces status report) → IsSaved e s keys limit shown_as pieces
-  is_saved known e s fits keys limit (show.Trace with_time with_words with_screen) pieces status report x = tt
-  is_saved known e s fits keys limit show.Pictures pieces status report x = tt
-  is_saved known e s fits keys limit (show.Commands text echo) pieces status report x = tt
-  is_saved known e s fits keys limit show.State pieces status report x = saves_one e s fits keys limit pieces status report x
-  is_saved known e s fits keys limit show.Profile pieces status report x = tt
-  is_saved known e s fits keys limit (show.Summary number) pieces status report x = tt
+      (known : Known) (e : Edition) (s : Start) → Fits e s → (keys : Option (List ℕ)) (limit : ℕ) (shown_as : Show (List ℕ)) (output : Output)
+      → ShowComes known e s keys limit shown_as (Given output) → IsSaved e s keys limit shown_as output.pieces
+  is_saved known e s fits keys limit show.State output x =
+      saves_one e s fits keys limit output x.value x.gives (saved_file e (events_in e s x.value limit)) refl x.here.here
+  is_saved known e s fits keys limit _ output x = tt
 
-  shows : (loaded : Loaded) (pieces : List (List ℕ)) (status : Status) (report : List ℕ) → AreGiven (needed loaded)
-      → HasOutcome loaded (Shown pieces status report) → Continues loaded pieces
-  shows (request.Run run) pieces status report given comes =
-      begun_so pieces status report (λ e s. ShowComes (known_in run.start) e s run.keys run.limit run.show) (λ e s. IsSaved e s run.keys run.limit run.show pieces)
-      (λ e s fits comes. is_saved _ e s fits run.keys run.limit run.show pieces status report comes)
+  shows : (loaded : Loaded) (output : Output) → AreGiven (needed loaded) → HasOutcome loaded (Given output) → Continues loaded output.pieces
+  shows (request.Run run) output given comes =
+      begun_so output (λ e s. ShowComes (known_in run.start) e s run.keys run.limit run.show) (λ e s. IsSaved e s run.keys run.limit run.show output.pieces)
+      (λ e s fits comes. is_saved _ e s fits run.keys run.limit run.show output comes)
       run.start (show_files run.show ++ script_files run.keys) given comes
-  shows _ pieces status report given comes = tt
+  shows _ output given comes = tt
 
   pub continues_saved : (call : Call) → ContinuesSaved call
   continues_saved call asked loaded pieces status report asks comes =
-      shows loaded pieces status report (are_given call.files asked loaded asks.shape asks.read) comes
+      shows loaded (record { pieces = pieces; status = status; report = report }) (are_given call.files asked loaded asks.shape asks.read) comes

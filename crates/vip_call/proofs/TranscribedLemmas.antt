@@ -1,5 +1,5 @@
 -- What a request writes and reports of a run is that of a transcript of CHIP-8.
-use Rattle.std.proofs.Common.{◌≡◌, ◌⊎◌, inl, inr, ℕ, ◌-◌, ◌<◌, ◌≤◌, true, false, List, Bool, [], ◌∷◌, ◌++◌, Option, Some, None, Result, Ok, Err, refl, sym, ap, subst, ◌∙◌, arith}
+use Rattle.std.proofs.Common.{◌≡◌, ◌⊎◌, inl, inr, ℕ, ◌-◌, ◌<◌, ◌≤◌, true, false, List, [], ◌∷◌, ◌++◌, Option, Some, None, Ok, refl, sym, ap, subst, ◌∙◌, arith}
 use Rattle.std.specs.Prelude.{max}
 use Rattle.std.specs.Option.{option_map}
 use Rattle.std.proofs.lemmas.Bool.{cases_lt}
@@ -23,23 +23,21 @@ use Rattle.vip_text.specs.StateFile.{shown}
 use Rattle.vip_text.specs.Traces.{columns_of}
 use Rattle.vip_show.specs.Output.{picture_pieces}
 use Rattle.vip_show.specs.StateOutput.{saved_file}
-use Rattle.vip_words.specs.DebugGrammar.{commands_of}
 use Rattle.vip_words.specs.Request.{most_cycles}
 use Rattle.vip_words.specs.Spoken.{Spoken}
-use Rattle.vip_words.specs.declared.debug_commands.CommandFault.{CommandFault}
-use Rattle.vip_words.specs.declared.debug_commands.CommandFault.TheVariants as command
-use Rattle.vip_words.specs.declared.debug_commands.Speaks.TheVariants.{Chip8}
 use Rattle.vip_words.specs.declared.request.Request.TheVariants as request
 use Rattle.vip_words.specs.declared.request.Show.{Show}
 use Rattle.vip_words.specs.declared.request.Show.TheVariants as show
 use Rattle.vip_tools.specs.declared.status.Status.{Status}
 use Rattle.vip_tools.specs.declared.status.Status.TheVariants.{Done, Stopped as Stops, WriteFault}
 use Rattle.vip_tools.specs.Files.{Loaded, needed, script_files, show_files}
-use Rattle.vip_tools.specs.Outcome.{Outcome}
-use Rattle.vip_tools.specs.Outcome.Outcome.{Refused, Shown, GivenUp}
+use Rattle.vip_tools.specs.Judged.Verdict.{Given}
+use Rattle.vip_tools.specs.Outcome.{Output, script_in}
+use Rattle.vip_tools.specs.Report.{end_report}
+use Rattle.vip_tools.specs.Status.{end_status}
+use Rattle.vip_tools.proofs.JudgedLemmas.{same_value}
 use Rattle.vip_tools.specs.Code.{Known}
-use Rattle.vip_verbs.specs.Outcome.{known_in, DebugComes, HasOutcome, RunTo, ShowComes, debug_ending, events_in, events_shown, limit_from, ran, run_ending, run_of, saved_as}
-use Rattle.vip_verbs.specs.Outcome.RunTo.{FaultyScript, FaultyRom, Runs}
+use Rattle.vip_verbs.specs.Outcome.{known_in, HasOutcome, RunTo, ShowComes, debug_ending, events_in, events_shown, limit_from, ran, run_ending, run_of, saved_as}
 use Rattle.vip_call.specs.Commands.{AllAnswered}
 use Rattle.vip_call.specs.Transcribed.{IsShown, IsStateOf, RunLaw, Transcribed, TranscribesBy, all_points, first_cycle, in_time, is_run, of_language}
 use Rattle.vip_call.specs.Transcript.{ArePictures, GoesOn, Point, last_point, profile_of, summary_text, trace_text}
@@ -174,105 +172,83 @@ module _ (every : EveryRun) (from : FromAccepted) (saves : SavesShown) (law : Ru
             ∙ over_at limit (before_point (interpreter_of e) s script made) (state (interpreter_of e) s script made)
             (no_stop_before (interpreter_of e) s script made h.runs)
 
-  -- what comes to output
-  Of : Known → Edition → Start → Option (List ℕ) → ℕ → Show (List ℕ) → Outcome → Type 0
-  Of known e s keys limit asked_show (Refused status report) = Unit {0}
-  Of known e s keys limit asked_show (GivenUp report) = Unit {0}
-  Of known e s keys limit asked_show (Shown pieces status report) = Transcribed law known e s keys limit asked_show pieces status report
+  module _ (known : Known) (e : Edition) (s : Start) (fits : Fits e s) (keys : Option (List ℕ)) (limit : ℕ) (asked_show : Show (List ℕ)) (output : Output) where
+    -- these pieces and this end were told
+    told_run :
+        (script : List KeyEvent) → script_in keys ≡ Ok script → (pieces : List (List ℕ)) (told : Ending)
+        → IsShown e s (points_shown e s script limit) known limit (law.pictures e s script limit) (run_ending e s script limit)
+        (end_cycle limit (events_shown e s script limit)) told asked_show pieces
+        → Given output ≡ ran limit pieces told → Transcribed law known e s keys limit asked_show output.pieces output.status output.report
+    told_run script reads pieces told is_shown is =
+        let same = same_value output (record { pieces = pieces; status = end_status told; report = end_report limit told }) is in
+        subst (λ (o : Output). Transcribed law known e s keys limit asked_show o.pieces o.status o.report) (sym same)
+        (record {
+          script = script;
+          reads = reads;
+          points = points_shown e s script limit;
+          ending = run_ending e s script limit;
+          over = end_cycle limit (events_shown e s script limit);
+          transcript = runs.transcript e s fits script limit;
+          reported = told;
+          shown = is_shown;
+          status_is = refl;
+          report_is = refl;
+        })
 
-  module _ (known : Known) (e : Edition) (s : Start) (fits : Fits e s) (keys : Option (List ℕ)) (limit : ℕ) (asked_show : Show (List ℕ)) where
     transcribed_run :
         (pieces : List KeyEvent → List (List ℕ)) (told : List KeyEvent → Ending)
         → ((script : List KeyEvent)
         → IsShown e s (points_shown e s script limit) known limit (law.pictures e s script limit) (run_ending e s script limit)
         (end_cycle limit (events_shown e s script limit)) (told script) asked_show (pieces script))
-        → (o : Outcome) → RunTo e keys (λ script. ran limit (pieces script) (told script)) o → Of known e s keys limit asked_show o
-    unfolding Of
-    transcribed_run pieces told is_shown _ (FaultyScript line cause is) = tt
-    transcribed_run pieces told is_shown _ (FaultyRom script fault is fault_is rom) = tt
-    transcribed_run pieces told is_shown _ (Runs script is rom) = record {
-      script = script;
-      reads = is;
-      points = points_shown e s script limit;
-      ending = run_ending e s script limit;
-      over = end_cycle limit (events_shown e s script limit);
-      transcript = runs.transcript e s fits script limit;
-      reported = told script;
-      shown = is_shown script;
-      status_is = refl;
-      report_is = refl;
-    }
+        → RunTo e keys (λ script. ran limit (pieces script) (told script)) (Given output)
+        → Transcribed law known e s keys limit asked_show output.pieces output.status output.report
+    transcribed_run pieces told is_shown comes = told_run comes.value comes.gives (pieces comes.value) (told comes.value) (is_shown comes.value) comes.here.here
 
   transcribed_state :
-      (known : Known) (e : Edition) (s : Start) (fits : Fits e s) (keys : Option (List ℕ)) (limit : ℕ) (o : Outcome)
-      → RunTo e keys (λ script. saved_as limit (run_ending e s script limit) (saved_file e (events_in e s script limit))) o
-      → Of known e s keys limit show.State o
-  unfolding Of
-  transcribed_state known e s fits keys limit _ (FaultyScript line cause is) = tt
-  transcribed_state known e s fits keys limit _ (FaultyRom script fault is fault_is rom) = tt
-  transcribed_state known e s fits keys limit _ (Runs script is rom) = go (saved_file e (events_in e s script limit)) refl
+      (known : Known) (e : Edition) (s : Start) (fits : Fits e s) (keys : Option (List ℕ)) (limit : ℕ) (output : Output) (script : List KeyEvent)
+      → script_in keys ≡ Ok script → (file : Option (List ℕ)) → saved_file e (events_in e s script limit) ≡ file
+      → Given output ≡ saved_as limit (run_ending e s script limit) file
+      → Transcribed law known e s keys limit show.State output.pieces output.status output.report
+  transcribed_state known e s fits keys limit output script reads None saved is = absurd (cc)
+  transcribed_state known e s fits keys limit output script reads (Some file) saved is =
+      told_run known e s fits keys limit show.State output script reads (file ∷ []) (run_ending e s script limit) ((λ few. state few), refl) is
     where
-      go : (file : Option (List ℕ)) → saved_file e (events_in e s script limit) ≡ file
-          → Of known e s keys limit show.State (saved_as limit (run_ending e s script limit) file)
-      go None saved = tt
-      go (Some file) saved = record {
-        script = script;
-        reads = is;
-        points = points_shown e s script limit;
-        ending = run_ending e s script limit;
-        over = end_cycle limit (events_shown e s script limit);
-        transcript = runs.transcript e s fits script limit;
-        reported = run_ending e s script limit;
-        shown = (λ few. state few, refl);
-        status_is = refl;
-        report_is = refl;
-      }
-        where
-          state : limit ≤ most_cycles → IsStateOf e (last_point (all_points e s (points_shown e s script limit))) (file ∷ [])
-          state few =
-              let x = saves e s fits script limit few file saved in
-              record {
-                file = file;
-                written = refl;
-                named = x.0.edition;
-                shows =
-                    ap last_point (sym (all_are e s script limit)) ∙ last_is_last e (events_in e s script limit)
-                    ∙ ap (λ last. option_map (point_of e) last) x.1 ∙ ap Some (file_point_is e file);
-              }
-
-  transcribed_debug :
-      (known : Known) (e : Edition) (s : Start) (fits : Fits e s) (keys : Option (List ℕ)) (limit : ℕ) (text : List ℕ) (echo : Bool)
-      (read : Result (List Spoken) CommandFault)
-      → commands_of Chip8 known.names echo limit text ≡ read → (o : Outcome) → DebugComes known.labels e s keys limit read o
-      → Of known e s keys limit (show.Commands text echo) o
-  unfolding Of
-  transcribed_debug known e s fits keys limit text echo (Ok commands) says o comes =
-      transcribed_run known e s fits keys limit (show.Commands text echo) _ _ (λ script. rw says (answered e s fits limit known.labels script commands)) o comes
-  transcribed_debug known e s fits keys limit text echo (Err (command.Fault line cause)) says o comes = rw comes tt
-  transcribed_debug known e s fits keys limit text echo (Err command.NoMemory) says o comes = absurd comes
+      state : limit ≤ most_cycles → IsStateOf e (last_point (all_points e s (points_shown e s script limit))) (file ∷ [])
+      state few =
+          let x = saves e s fits script limit few file saved in
+          record {
+            file = file;
+            written = refl;
+            named = x.0.edition;
+            shows =
+                ap last_point (sym (all_are e s script limit)) ∙ last_is_last e (events_in e s script limit)
+                ∙ ap (λ last. option_map (point_of e) last) x.1 ∙ ap Some (file_point_is e file);
+          }
 
   transcribed_as :
-      (known : Known) (e : Edition) (s : Start) (fits : Fits e s) (keys : Option (List ℕ)) (limit : ℕ) (asked_show : Show (List ℕ)) (o : Outcome)
-      → ShowComes known e s keys limit asked_show o → Of known e s keys limit asked_show o
-  transcribed_as known e s fits keys limit (show.Trace with_time with_words with_screen) o comes =
-      transcribed_run known e s fits keys limit (show.Trace with_time with_words with_screen) _ _
+      (known : Known) (e : Edition) (s : Start) (fits : Fits e s) (keys : Option (List ℕ)) (limit : ℕ) (asked_show : Show (List ℕ)) (output : Output)
+      → ShowComes known e s keys limit asked_show (Given output) → Transcribed law known e s keys limit asked_show output.pieces output.status output.report
+  transcribed_as known e s fits keys limit (show.Trace with_time with_words with_screen) output comes =
+      transcribed_run known e s fits keys limit (show.Trace with_time with_words with_screen) output _ _
       (λ script. (
         traced_is e (columns_of with_time with_words) with_screen (events_shown e s script limit) (events_in e s script limit)
             ∙ ap (λ ps. trace_text e (columns_of with_time with_words) with_screen (points_shown e s script limit) (last_point ps)) (all_are e s script limit),
         refl,
       ))
-      o comes
-  transcribed_as known e s fits keys limit show.Pictures o comes =
-      transcribed_run known e s fits keys limit show.Pictures _ _
-      (λ script. (pictures_are e s fits limit script, runs.pictures e s fits script limit, refl)) o comes
-  transcribed_as known e s fits keys limit (show.Commands text echo) o comes =
-      transcribed_debug known e s fits keys limit text echo (commands_of Chip8 known.names echo limit text) refl o comes
-  transcribed_as known e s fits keys limit show.State o comes = transcribed_state known e s fits keys limit o comes
-  transcribed_as known e s fits keys limit show.Profile o comes =
-      transcribed_run known e s fits keys limit show.Profile _ _
-      (λ script. (profiled_is e (events_in e s script limit) ∙ ap (profile_of e) (all_are e s script limit), refl)) o comes
-  transcribed_as known e s fits keys limit (show.Summary number) o comes =
-      transcribed_run known e s fits keys limit (show.Summary number) _ _
+      comes
+  transcribed_as known e s fits keys limit show.Pictures output comes =
+      transcribed_run known e s fits keys limit show.Pictures output _ _
+      (λ script. (pictures_are e s fits limit script, runs.pictures e s fits script limit, refl)) comes
+  transcribed_as known e s fits keys limit (show.Commands text echo) output comes =
+      transcribed_run known e s fits keys limit (show.Commands text echo) output _ _
+      (λ script. rw comes.gives (answered e s fits limit known.labels script comes.value)) comes.here
+  transcribed_as known e s fits keys limit show.State output comes =
+      transcribed_state known e s fits keys limit output comes.value comes.gives (saved_file e (events_in e s comes.value limit)) refl comes.here.here
+  transcribed_as known e s fits keys limit show.Profile output comes =
+      transcribed_run known e s fits keys limit show.Profile output _ _
+      (λ script. (profiled_is e (events_in e s script limit) ∙ ap (profile_of e) (all_are e s script limit), refl)) comes
+  transcribed_as known e s fits keys limit (show.Summary number) output comes =
+      transcribed_run known e s fits keys limit (show.Summary number) output _ _
       (λ script. (
         summed_is e number (windows_ended (over e s fits limit script) - windows_ended (first_cycle e s)) (interpreter_of e).rom (run_of e s script limit)
             (events_shown e s script limit) (events_in e s script limit) (pictures_are e s fits limit script).count
@@ -281,19 +257,18 @@ module _ (every : EveryRun) (from : FromAccepted) (saves : SavesShown) (law : Ru
             (all_are e s script limit),
         refl,
       ))
-      o comes
+      comes
 
   transcribes :
-      (loaded : Loaded) (pieces : List (List ℕ)) (status : Status) (report : List ℕ) → AreGiven (needed loaded) → HasOutcome loaded (Shown pieces status report)
-      → TranscribesBy law loaded pieces status report
-  unfolding Of
-  transcribes (request.Run run) pieces status report given comes =
-      from_start (λ e s. Transcribed law (known_in run.start) e s run.keys run.limit run.show pieces status report) run.start
-      (begun_so pieces status report (λ e s. ShowComes (known_in run.start) e s run.keys run.limit run.show)
-      (λ e s. Transcribed law (known_in run.start) e s run.keys run.limit run.show pieces status report)
-      (λ e s fits comes. transcribed_as _ e s fits run.keys run.limit run.show (Shown pieces status report) comes)
+      (loaded : Loaded) (output : Output) → AreGiven (needed loaded) → HasOutcome loaded (Given output)
+      → TranscribesBy law loaded output.pieces output.status output.report
+  transcribes (request.Run run) output given comes =
+      from_start (λ e s. Transcribed law (known_in run.start) e s run.keys run.limit run.show output.pieces output.status output.report) run.start
+      (begun_so output (λ e s. ShowComes (known_in run.start) e s run.keys run.limit run.show)
+      (λ e s. Transcribed law (known_in run.start) e s run.keys run.limit run.show output.pieces output.status output.report)
+      (λ e s fits comes. transcribed_as _ e s fits run.keys run.limit run.show output comes)
       run.start (show_files run.show ++ script_files run.keys) given comes)
-  transcribes _ pieces status report given comes = tt
+  transcribes _ output given comes = tt
 
   -- ---- a call
 
@@ -306,7 +281,7 @@ module _ (every : EveryRun) (from : FromAccepted) (saves : SavesShown) (law : Ru
         files = s.files;
         pieces = s.pieces;
         report = s.report;
-        comes = transcribes s.loaded s.pieces status s.report (are_given call.files s.asked s.loaded s.asks.shape s.asks.read) s.comes;
+        comes = transcribes s.loaded (record { pieces = s.pieces; status = status; report = s.report }) (are_given call.files s.asked s.loaded s.asks.shape s.asks.read) s.comes;
         out = s.out;
         err = s.err;
       }
@@ -323,7 +298,7 @@ module _ (every : EveryRun) (from : FromAccepted) (saves : SavesShown) (law : Ru
         pieces = s.pieces;
         status = s.status;
         report = s.report;
-        comes = transcribes s.loaded s.pieces s.status s.report (are_given call.files s.asked s.loaded s.asks.shape s.asks.read) s.comes;
+        comes = transcribes s.loaded (record { pieces = s.pieces; status = s.status; report = s.report }) (are_given call.files s.asked s.loaded s.asks.shape s.asks.read) s.comes;
         fault = s.fault;
       }
   tells _ call s = tt

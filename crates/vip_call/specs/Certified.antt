@@ -13,8 +13,9 @@ use Rattle.chip8_image.specs.Interpreters.{interpreter_of}
 use Rattle.vip_words.specs.declared.request.Request.TheVariants.{Certify, Cycles, Safe, Timing}
 use Rattle.vip_words.specs.declared.request.Entry.{Entry}
 use Rattle.vip_tools.specs.Certificates.{Assembled, entry_in, exits_asked, rom_in, routine_text}
-use Rattle.vip_tools.specs.Code.{OfGame}
+use Rattle.vip_tools.specs.Code.{GameComes}
 use Rattle.vip_tools.specs.Files.{Loaded}
+use Rattle.vip_tools.specs.Judged.{Of}
 
 -- The output names the entry and the limit of a certificate, and its exits where they are asked for; and the code in the ROM of the source leaves as it
 -- says.
@@ -57,6 +58,6 @@ pub record WritesCertificate (e : Edition) (game : List ℕ) (pieces : List (Lis
 abbrev pub Certifies : Loaded → List (List ℕ) → Type 0
 Certifies (Cycles source certificate exits) pieces = LeavesInTime source certificate exits pieces
 Certifies (Timing source entry p k) pieces = WritesTiming source entry p k pieces
-Certifies (Safe code certificate edition) pieces = OfGame code (λ game. IsSafe edition game)
-Certifies (Certify code edition) pieces = OfGame code (λ game. WritesCertificate edition game pieces)
+Certifies (Safe code certificate edition) pieces = Of (GameComes edition code) (λ game. IsSafe edition game)
+Certifies (Certify code edition) pieces = Of (GameComes edition code) (λ game. WritesCertificate edition game pieces)
 Certifies _ pieces = Unit {0}

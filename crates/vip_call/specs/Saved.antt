@@ -10,8 +10,8 @@ use Rattle.vip_text.specs.StateFile.{shown, IsAccepted}
 use Rattle.vip_text.specs.declared.trace.TraceColumns.{TraceColumns}
 use Rattle.vip_tools.specs.Code.{nothing_known}
 use Rattle.vip_tools.specs.Files.{Loaded}
-use Rattle.vip_tools.specs.Outcome.{Outcome, script_in}
-use Rattle.vip_tools.specs.Outcome.Outcome.{Shown}
+use Rattle.vip_tools.specs.Outcome.{Outcome, Shown, script_in}
+use Rattle.vip_tools.specs.Judged.Verdict.{Given}
 use Rattle.vip_words.specs.Request.{most_cycles}
 use Rattle.vip_words.specs.Spoken.{Spoken}
 use Rattle.vip_words.specs.declared.debug_commands.Command.TheVariants.{Runs}
@@ -24,7 +24,7 @@ use Rattle.vip_verbs.specs.Outcome.{HasOutcome, OfRun, ShowComes, debugged, even
 
 -- one go comes to what came first and then to the rest, and it ends as the rest does
 abbrev pub IsJoined : (first rest whole : Outcome) → Type 0
-IsJoined (Shown first _ _) (Shown rest status report) whole = whole ≡ Shown (first ++ rest) status report
+IsJoined (Given first) (Given rest) whole = whole ≡ Shown (first.pieces ++ rest.pieces) rest.status rest.report
 IsJoined _ _ whole = ⊥
 
 -- Under a script up to a limit one go of the run from a start is what comes up to the cycle of a file's point, and then what comes of the run from the

@@ -27,7 +27,8 @@ use Rattle.vip_call.specs.Transcribed.{Transcribes, TranscribesInTime}
 use Rattle.vip_call.specs.Words.{FinishAnswers, OfWords, OpensWords}
 use Rattle.vip_verbs.specs.declared.prepared.Prepared.{Prepared}
 use Rattle.vip_verbs.specs.Outcome.{HasOutcome}
-use Rattle.vip_tools.specs.Outcome.Outcome.{Refused, Shown, GivenUp}
+use Rattle.vip_tools.specs.Judged.Verdict.{Refused, GivenUp}
+use Rattle.vip_tools.specs.Outcome.{Shown}
 use Rattle.vip_tools.specs.Refusal.{too_large_status}
 use Rattle.vip_tools.specs.Report.{usage, bad_source, bad_state, cannot_read, too_large_report, write_fault, no_memory, report_pieces}
 use Rattle.vip_tools.specs.Reported.{IsPut}
@@ -403,7 +404,7 @@ BringsMessages call =
 -- ---- the program
 
 -- What the program promises of each call. The body is held to `says`: what its answer tells of words, files, output and report. What follows for a
--- reader stands beside it. `words` and `due` follow from `says` alone, `complete` and `rom` as each source gives its ROM, `chip8` by the law of every run,
+-- reader stands beside it. `words` follows from `says` alone, `due`, `complete` and `rom` as each source gives its ROM, `chip8` by the law of every run,
 -- `timed` by that of its time. `language`, `certified`, `saved`, `checked` and `linked` are laws of what words and contents come to, and hold of any body.
 pub record Promises (status : Status) (call : Call) : Type 0 where
   -- what the answer says: exact output for Done and Stopped, of `certify` some certificate that is accepted, each refusal's cause, and which reads were made
@@ -428,6 +429,12 @@ pub record Promises (status : Status) (call : Call) : Type 0 where
   pub due : GivesDue status call
   pub complete : Completes status call
   pub rom : ¬ IsOfRom status
+
+-- something was opened for the words and finished, or why nothing was is reported
+pub record IsFinished (words : List (List ℕ)) (files files' : FilesMeaning) (out out' err err' : SinkMeaning) (status : Status) : Type 0 where
+  pub opened : Result Prepared Refusal
+  pub opens : OpensWords words files files' opened
+  pub finishes : FinishAnswers opened out out' err err' status
 
 -- Whatever was opened for the words and then finished, or refused and reported, keeps what is promised.
 abbrev pub EveryCall : Type 0

@@ -26,9 +26,10 @@ use Rattle.vip_words.specs.declared.request.Start.TheVariants as beginning
 use Rattle.vip_tools.specs.Report.{end_report}
 use Rattle.vip_tools.specs.Status.{end_status}
 use Rattle.vip_tools.specs.declared.status.Status.{Status}
-use Rattle.vip_tools.specs.Code.{Known, OfGame}
+use Rattle.vip_tools.specs.Code.{GameComes, Known}
 use Rattle.vip_tools.specs.Demo.{demo_game}
 use Rattle.vip_tools.specs.Files.{Loaded}
+use Rattle.vip_tools.specs.Judged.{Of}
 use Rattle.vip_tools.specs.Outcome.{script_in}
 use Rattle.vip_verbs.specs.Outcome.{known_in}
 use Rattle.vip_call.specs.Commands.{AllAnswered}
@@ -156,7 +157,7 @@ pub record FromFile (f : List ℕ) (Here : Edition → Type 0) : Type 0 where
 
 -- of the edition and the start of a run this holds; that of a source is the run of the game that it gives
 abbrev pub From : asked.Start (List ℕ) → (Edition → Start → Type 0) → Type 0
-From (beginning.Game code edition) Here = OfGame code (λ game. Here edition (Reset game))
+From (beginning.Game code edition) Here = Of (GameComes edition code) (λ game. Here edition (Reset game))
 From (beginning.State file) Here = FromFile file (λ e. Here e (Saved file))
 From (beginning.Demo number) Here = Here Usual (Reset (demo_game number))
 

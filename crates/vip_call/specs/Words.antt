@@ -18,8 +18,8 @@ use Rattle.vip_tools.specs.Reported.{IsPut, RefusalAnswers}
 use Rattle.vip_tools.specs.Status.{ended_status, fault_status}
 use Rattle.vip_tools.specs.declared.status.Status.{Status}
 use Rattle.vip_tools.specs.declared.status.Status.TheVariants.{NoDispatch as undispatched}
-use Rattle.vip_tools.specs.Outcome.{Outcome}
-use Rattle.vip_tools.specs.Outcome.Outcome.{Refused, Shown}
+use Rattle.vip_tools.specs.Judged.Verdict.{Given, Refused}
+use Rattle.vip_tools.specs.Outcome.{Outcome, Output}
 use Rattle.vip_tools.specs.Files.{needed, ReadsSome}
 use Rattle.vip_verbs.specs.Prepared.{OpenAnswers, outcome_of}
 use Rattle.vip_verbs.specs.declared.prepared.Prepared.{Prepared}
@@ -44,21 +44,21 @@ OpensWords words old new (Err NoMemory) = (new ≡ old) ⊎ OfWords words (λ as
 OpensWords words old new answer = OfWords words (λ asked. OpenAnswers asked old new answer)
 
 -- the output went out whole, and then its report
-pub record Reports (pieces : List (List ℕ)) (status : Status) (report : List ℕ) (out out' err err' : SinkMeaning) (ended : Ended) : Type 0 where
-  pub whole : PutsAll pieces out out'
-  pub reported : PutsAll (report_pieces report) err err'
-  pub status_is : status ≡ ended_status ended
+pub record Reports (output : Output) (out out' err err' : SinkMeaning) (ended : Ended) : Type 0 where
+  pub whole : PutsAll output.pieces out out'
+  pub reported : PutsAll (report_pieces output.report) err err'
+  pub status_is : output.status ≡ ended_status ended
 
 -- a fault of the output, which is reported; or of the report
-abbrev pub Faults : List (List ℕ) → List ℕ → SinkMeaning → SinkMeaning → SinkMeaning → SinkMeaning → Type 0
-Faults pieces report out out' err err' =
-    (FailsWithin pieces out out' × IsPut write_fault err err') ⊎ (PutsAll pieces out out' × FailsWithin (report_pieces report) err err')
+abbrev pub Faults : Output → SinkMeaning → SinkMeaning → SinkMeaning → SinkMeaning → Type 0
+Faults output out out' err err' =
+    (FailsWithin output.pieces out out' × IsPut write_fault err err') ⊎ (PutsAll output.pieces out out' × FailsWithin (report_pieces output.report) err err')
 
 -- What performing answers; it can't be want of memory. A run that is to be saved and has no dispatch point is refused, with no output: whether its
 -- report could be written or not, the answer is the same.
 abbrev pub PerformsAnswer : Outcome → SinkMeaning → SinkMeaning → SinkMeaning → SinkMeaning → Result Ended PerformFault → Type 0
-PerformsAnswer (Shown pieces status report) out out' err err' (Ok ended) = Reports pieces status report out out' err err' ended
-PerformsAnswer (Shown pieces status report) out out' err err' (Err WriteFault) = Faults pieces report out out' err err'
+PerformsAnswer (Given output) out out' err err' (Ok ended) = Reports output out out' err err' ended
+PerformsAnswer (Given output) out out' err err' (Err WriteFault) = Faults output out out' err err'
 PerformsAnswer (Refused status report) out out' err err' (Err NoDispatch) = (status ≡ undispatched) × (out' ≡ out) × IsPut report err err'
 PerformsAnswer _ out out' err err' _ = ⊥
 

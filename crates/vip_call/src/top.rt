@@ -4,7 +4,7 @@ ghost use Rattle.std.specs.Prelude.{◌≡◌, IfOk, map, string_bytes};
 ghost use Rattle.vip_words.specs.Request.{asked_of, InRange};
 ghost use Rattle.vip_verbs.specs.Prepared.{IsReady, outcome_of};
 ghost use Rattle.vip_call.specs.Words.{Finishes, OpensWords, PerformsAnswer, UnderstoodAnswers, performed_status};
-ghost use Rattle.vip_call.specs.Top.{call_of, EveryCall, Promises};
+ghost use Rattle.vip_call.specs.Top.{call_of, EveryCall, IsFinished, Promises};
 
 use chip8_source::laws::source_gives_rom;
 use cycle_check::laws::accepted_leaves;
@@ -114,6 +114,7 @@ pub fn vip_main<F: Files, O: Sink, E: Sink>(
     err: &mut E,
 ) -> Status
     ensures promises { Promises result (call_of (map string_bytes words.now) (F.meaning files.old) (F.meaning files.new) (O.meaning out.old) (O.meaning out.new) (E.meaning err.old) (E.meaning err.new)) }
+    ensures finished { IsFinished (map string_bytes words.now) (F.meaning files.old) (F.meaning files.new) (O.meaning out.old) (O.meaning out.new) (E.meaning err.old) (E.meaning err.new) result }
 {
     every_call();
     match open(alloc, words, files) {

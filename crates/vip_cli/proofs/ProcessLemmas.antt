@@ -27,19 +27,6 @@ module _ (files : FilesMeaning) (out err err' : SinkMeaning) where
   pub refuses :
       (line : CommandLine) (r : Refusal) (status : Status) (number : ℕ) → WordsAnswer line (Err r) → RefusalAnswers r err err' status
       → number ≡ status_number status → LineAnswers line files files out out err err' number
-  refuses (Ok args) refusal.Usage status number is answer ends = absurd is
-  refuses (Ok args) (refusal.Unread name) status number is answer ends = absurd is
-  refuses (Ok args) (refusal.TooLarge kind) status number is answer ends = absurd is
-  refuses (Ok args) (refusal.Script line cause) status number is answer ends = absurd is
-  refuses (Ok args) (refusal.Command line cause) status number is answer ends = absurd is
-  refuses (Ok args) (refusal.Source line cause) status number is answer ends = absurd is
-  refuses (Ok args) (refusal.Misfit misfit) status number is answer ends = absurd is
-  refuses (Ok args) (refusal.State fault) status number is answer ends = absurd is
-  refuses (Ok args) (refusal.Rom fault) status number is answer ends = absurd is
-  refuses (Ok args) (refusal.Certificate line cause) status number is answer ends = absurd is
-  refuses (Ok args) (refusal.Proof line cause) status number is answer ends = absurd is
-  refuses (Ok args) (refusal.NoCertificate obstacle) status number is answer ends = absurd is
-  refuses (Ok args) (refusal.NoTiming why) status number is answer ends = absurd is
   refuses (Ok args) refusal.NoMemory status number is answer ends = elim answer [
     | inl own ↦ inr (record { no_file = refl; no_output = refl; reports = own.1; ends = rw own.0 at ends })
     | inr none ↦ inr (record { no_file = refl; no_output = refl; reports = none.1; ends = rw none.0 at ends })
@@ -48,19 +35,9 @@ module _ (files : FilesMeaning) (out err err' : SinkMeaning) where
     | inl own ↦ inl (record { no_file = refl; no_output = refl; reports = own.1; ends = rw own.0 at ends })
     | inr none ↦ inr (record { no_file = refl; no_output = refl; reports = none.1; ends = rw none.0 at ends })
   ]
-  refuses (Err error) (refusal.Unread name) status number is answer ends = absurd is
-  refuses (Err error) (refusal.TooLarge kind) status number is answer ends = absurd is
-  refuses (Err error) (refusal.Script line cause) status number is answer ends = absurd is
-  refuses (Err error) (refusal.Command line cause) status number is answer ends = absurd is
-  refuses (Err error) (refusal.Source line cause) status number is answer ends = absurd is
-  refuses (Err error) (refusal.Misfit misfit) status number is answer ends = absurd is
-  refuses (Err error) (refusal.State fault) status number is answer ends = absurd is
-  refuses (Err error) (refusal.Rom fault) status number is answer ends = absurd is
-  refuses (Err error) (refusal.Certificate line cause) status number is answer ends = absurd is
-  refuses (Err error) (refusal.Proof line cause) status number is answer ends = absurd is
-  refuses (Err error) (refusal.NoCertificate obstacle) status number is answer ends = absurd is
-  refuses (Err error) (refusal.NoTiming why) status number is answer ends = absurd is
   refuses (Err error) refusal.NoMemory status number is answer ends = elim answer [
     | inl own ↦ inr (record { no_file = refl; no_output = refl; reports = own.1; ends = rw own.0 at ends })
     | inr none ↦ inr (record { no_file = refl; no_output = refl; reports = none.1; ends = rw none.0 at ends })
   ]
+  refuses (Ok args) _ status number is answer ends = absurd is
+  refuses (Err error) _ status number is answer ends = absurd is

@@ -17,9 +17,7 @@ use Rattle.vip_tools.specs.declared.status.Status.TheVariants.{Usage, NoMemory}
 use Rattle.vip_tools.specs.Report.{no_memory, usage}
 use Rattle.vip_tools.specs.Reported.{IsPut}
 use Rattle.vip_tools.specs.Status.{status_number}
-use Rattle.vip_call.specs.Top.{Promises, call_of}
-use Rattle.vip_call.specs.Words.{FinishAnswers, OpensWords}
-use Rattle.vip_verbs.specs.declared.prepared.Prepared.{Prepared}
+use Rattle.vip_call.specs.Top.{IsFinished, Promises, call_of}
 
 -- the command line: the program's name, and the words behind it; or an error, as where one isn't UTF-8
 abbrev pub CommandLine : Type 0
@@ -38,9 +36,7 @@ WordsAnswer _ _ = ⊥
 
 -- The program ran on these words: something was opened and finished, which is never want of memory, or a refusal was reported.
 pub record Runs (words : List (List ℕ)) (files files' : FilesMeaning) (out out' err err' : SinkMeaning) (status : Status) : Type 0 where
-  pub opened : Result Prepared Refusal
-  pub opens : OpensWords words files files' opened
-  pub finishes : FinishAnswers opened out out' err err' status
+  pub finished : IsFinished words files files' out out' err err' status
   pub promises : Promises status (call_of words files files' out out' err err')
 
 -- It didn't: no file was read, nothing was written but this report, by one put, and the process ends with the number of this status.

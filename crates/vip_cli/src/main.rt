@@ -1,21 +1,21 @@
-//! The program `vip`: on the words of its command line, the files of the file system, and its standard output and standard error it opens what the
-//! words ask for, finishes what was opened or reports why nothing was, and ends with the status of that. It stands on these calls of `vip_call`, on the
-//! outside of `vip_outside` and on the statuses of `vip_tools`. `process` is generic over the system and the two streams, and proved as such: the words
-//! are all those behind the program's name, what the system opened and what went to the streams is what the calls promise, and the process ends with
-//! the number of its status. `main` is one call of it, with the real ones, of which no contract can speak.
+//! The program `vip`: on the words of its command line, the files of the file system, and its standard output and standard error it makes the call
+//! `vip_main` of `vip_call`, and ends with its status. It stands on that call, on the outside of `vip_outside` and on the statuses of `vip_tools`.
+//! `process` is generic over the system and the two streams, and proved as such: the words are all those behind the program's name, what the system
+//! opened and what went to the streams is what the call promises, and the process ends with the number of its status. `main` is one call of it, with
+//! the real ones, of which no contract can speak.
 #![tactic(auto)]
 
-ghost use Rattle.std.specs.Prelude.{◌≡◌, IfOk, map, string_bytes};
+ghost use Rattle.std.specs.Prelude.{◌≡◌, IfOk};
 ghost use Rattle.std.specs.Process.{exit_status};
-ghost use Rattle.vip_cli.specs.Process.{ProcessAnswers, Runs, WordsAnswer, words_behind};
+ghost use Rattle.vip_cli.specs.Process.{ProcessAnswers, WordsAnswer, words_behind};
 
 use std::alloc::{AllocError, Global};
 use std::env;
 use std::io::{self, ErrorKind};
 use std::process::ExitCode;
-use vip_call::{every_call, finish, open};
-use vip_outside::{Files, Host, RealFiles, Sink, StdSink, Stream, System, Writer};
-use vip_tools::{Refusal, Status, put_refusal};
+use vip_call::vip_main;
+use vip_outside::{Host, RealFiles, StdSink, Stream, System, Writer};
+use vip_tools::{Refusal, put_refusal};
 
 /// The words behind the program's name, all of them.
 fn words_after_name(alloc: Global, args: env::Args) -> Result<Vec<String>, AllocError>
@@ -38,23 +38,6 @@ fn words_of(alloc: Global, args: io::Result<env::Args>) -> Result<Vec<String>, R
     }
 }
 
-/// Runs the program on words: what they ask for is opened, and what was opened is finished without an allocator; or why nothing was is reported.
-fn run<F: Files, O: Sink, E: Sink>(
-    alloc: Global,
-    words: &[String],
-    files: &mut F,
-    out: &mut O,
-    err: &mut E,
-) -> Status
-    ensures { Runs (map string_bytes words.now) (F.meaning files.old) (F.meaning files.new) (O.meaning out.old) (O.meaning out.new) (E.meaning err.old) (E.meaning err.new) result }
-{
-    every_call();
-    match open(alloc, words, files) {
-        Ok(prepared) => finish(prepared, out, err),
-        Err(refusal) => put_refusal(alloc, err, &refusal),
-    }
-}
-
 /// Runs the program on a command line, on the files of a system, and on a sink over a stream for its output and one for its report.
 fn process<S: System, O: Stream, E: Stream>(
     alloc: Global,
@@ -67,7 +50,7 @@ fn process<S: System, O: Stream, E: Stream>(
 {
     match words_of(alloc, args) {
         Ok(words) => {
-            let status = run(alloc, words.as_slice(), files, out, err);
+            let status = vip_main(alloc, words.as_slice(), files, out, err);
             ExitCode::from(status.number())
         }
         Err(refusal) => {

@@ -1,81 +1,43 @@
 -- What comes of code, by what comes of the bytes that it gives.
-use Rattle.std.proofs.Common.{◌≡◌, ◌≤◌, ◌<◌, ◌+◌, ◌-◌, ◌∙◌, ℕ, List, length, refl, sym, ap, subst, arith, inl, inr, Option, Some, None, Result, Ok, Err, Vec}
+use Rattle.std.proofs.Common.{◌≡◌, ◌≤◌, ◌<◌, ◌+◌, ◌-◌, ◌∙◌, ℕ, List, refl, sym, ap, arith, inl, inr, Option, Some, None, Result, Ok, Err, Vec}
 use Rattle.std.specs.Prelude.{◌&&◌, not, is_some, option_map, unwrap_or}
 use Rattle.std.proofs.lemmas.Bool.{cases_lt}
 use Rattle.std.proofs.lemmas.List.FromFn.{fill_by_all, get_or-map-range_with_len, length-map-range_with_len}
 use Rattle.asm_lex.specs.declared.shape.Isa.TheVariants.{Cdp1802, Chip8}
 use Rattle.asm_core.specs.Made.{Made, IsAssembly}
 use Rattle.asm_core.specs.Labels.{labels_of}
-use Rattle.asm_core.specs.Sources.{source_lines, HasFirstFault}
-use Rattle.asm_core.specs.declared.fault.AsmCause.{AsmCause}
+use Rattle.asm_core.specs.Sources.{source_lines}
 use Rattle.asm_lex.specs.Names.{number_from, value_in}
 use Rattle.asm_lex.specs.declared.shape.Isa.{Isa}
 use Rattle.asm_listing.specs.Raw.{IsRaw, IsSpan, byte_at, bytes_from, span_bytes}
-use Rattle.chip8_lang.specs.State.{memory_size}
 use Rattle.chip8_lang.specs.declared.view.Edition.{Edition}
 use Rattle.vip_words.specs.declared.request.Code.{Code}
 use Rattle.vip_words.specs.declared.request.Code.TheVariants.{Bytes, Source as Text}
 use Rattle.vip_words.specs.declared.request.Memory.{Memory}
-use Rattle.vip_tools.specs.declared.refusal.Misfit.TheVariants.{Game, Stray}
+use Rattle.vip_tools.specs.declared.refusal.Misfit.TheVariants.{Stray}
 use Rattle.vip_tools.specs.declared.refusal.Refusal.{Refusal}
-use Rattle.vip_tools.specs.declared.refusal.Refusal.TheVariants.{Script, Command, Source, Misfit, Rom, Certificate, Proof, NoCertificate, NoTiming, NoMemory}
+use Rattle.vip_tools.specs.declared.refusal.Refusal.TheVariants.{Misfit, NoMemory}
 use Rattle.vip_tools.specs.Certificates.{made_byte, source_byte}
-use Rattle.vip_tools.specs.Code.{GameComes, GivesGame, ImageAnswers, ImageComes, IsGame, IsImage, IsNoGame, IsNoImage, IsShort, IsUnmarked, MadeImageAnswers, is_memory, is_stray, known_of, marked}
+use Rattle.vip_tools.specs.Code.{AssemblyComes, FitComes, GameAnswers, GameComes, ImageAnswers, ImageComes, IsRawGame, IsShort, LaidComes, MadeGameAnswers, MadeImageAnswers, is_memory, is_stray, known_of, marked}
+use Rattle.vip_tools.specs.Judged.{RefusedBy, cause_of}
+use Rattle.vip_tools.specs.Opening.{SourceComes}
 use Rattle.vip_tools.specs.declared.code.Marks.{Marks}
 use Rattle.vip_tools.specs.declared.refusal.Kind.{Kind}
-use Rattle.vip_tools.specs.Code.SourceGame.{FaultyGame, LargeGame, FitGame}
-use Rattle.vip_tools.specs.Code.SourceProgram.{FaultyProgram, StrayProgram, FitProgram}
 use Rattle.vip_tools.specs.Files.{IsFit, code_file, ram_size, rom_size}
-use Rattle.vip_tools.specs.Outcome.{Outcome}
-use Rattle.vip_tools.specs.Work.{RefusedBy, TextAnswers}
 use Rattle.vip_tools.specs.declared.code.Image.{Image}
 use Rattle.vip_tools.proofs.CertificateLemmas.{length-bytes, same_bytes}
+use Rattle.vip_tools.proofs.JudgedLemmas.{by-each, refused-behind, refused-first}
 
--- a refusal by what is a case of something is one by that
-module _ (P Q : Outcome → Type 0) (so : (o : Outcome) → P o → Q o) where
-  pub refused-so : (refusal : Refusal) → RefusedBy P refusal → RefusedBy Q refusal
-  refused-so (Script line cause) answer = so _ answer
-  refused-so (Command line cause) answer = so _ answer
-  refused-so (Source line cause) answer = so _ answer
-  refused-so (Misfit misfit) answer = so _ answer
-  refused-so (Rom fault) answer = so _ answer
-  refused-so (Certificate line cause) answer = so _ answer
-  refused-so (Proof line cause) answer = so _ answer
-  refused-so (NoCertificate obstacle) answer = so _ answer
-  refused-so (NoTiming why) answer = so _ answer
-  refused-so NoMemory answer = tt
-  refused-so _ answer = absurd answer
+-- ---- a source that isn't assembled
 
-  pub text-so : {Z : Type 0} (r : Result (Vec ℕ Z) Refusal) → TextAnswers P r → TextAnswers Q r
-  text-so (Ok text) answer = so _ answer
-  text-so (Err refusal) answer = refused-so refusal answer
+pub unassembled-game : (e : Edition) (code : Code (List ℕ)) (refusal : Refusal) → RefusedBy (AssemblyComes Chip8 code) refusal → RefusedBy (GameComes e code) refusal
+unassembled-game e (Bytes file) refusal by = by-each (λ (made : Made). ⊥) (GameComes e (Bytes file)) (cause_of refusal) by
+unassembled-game e (Text text) refusal by = refused-first (SourceComes Chip8 text) (FitComes e) refusal by
 
--- ---- its marks
-
--- a source of which they can't be known has its first fault, and there is no code of it
-module _ (isa : Isa) (P : Code (List ℕ) → Refusal → Type 0)
-    (source : (text : List ℕ) (line : ℕ) (cause : AsmCause) → HasFirstFault isa (source_lines text) line cause → P (Text text) (Source line cause))
-    (memory : (code : Code (List ℕ)) → P code NoMemory) where
-  pub unmarked : (code : Code (List ℕ)) (refusal : Refusal) → IsUnmarked isa code refusal → P code refusal
-  unmarked (Bytes file) NoMemory answer = memory (Bytes file)
-  unmarked (Bytes file) _ answer = absurd answer
-  unmarked (Text text) (Source line cause) answer = source text line cause answer
-  unmarked (Text text) NoMemory answer = memory (Text text)
-  unmarked (Text text) _ answer = absurd answer
-
-pub unmarked-game : (e : Edition) (code : Code (List ℕ)) (refusal : Refusal) → IsUnmarked Chip8 code refusal → IsNoGame e code refusal
-unmarked-game e = unmarked Chip8 (IsNoGame e) (λ text line cause fault. fault) memory
-  where
-    memory : (code : Code (List ℕ)) → IsNoGame e code NoMemory
-    memory (Bytes file) = tt
-    memory (Text text) = tt
-
-pub unmarked-image : (code : Code (List ℕ)) (refusal : Refusal) → IsUnmarked Cdp1802 code refusal → IsNoImage code refusal
-unmarked-image = unmarked Cdp1802 IsNoImage (λ text line cause fault. fault) memory
-  where
-    memory : (code : Code (List ℕ)) → IsNoImage code NoMemory
-    memory (Bytes file) = tt
-    memory (Text text) = tt
+pub unassembled-image : (memory : Memory) (code : Code (List ℕ)) (refusal : Refusal) → RefusedBy (AssemblyComes Cdp1802 code) refusal
+    → RefusedBy (ImageComes memory code) refusal
+unassembled-image memory (Bytes file) refusal by = by-each (λ (made : Made). ⊥) (ImageComes memory (Bytes file)) (cause_of refusal) by
+unassembled-image memory (Text text) refusal by = refused-first (SourceComes Cdp1802 text) (λ made. LaidComes text) refusal by
 
 -- its source fits where it does
 pub code-short : (kind : Kind) (most : ℕ) (code : Code (List ℕ)) → IsFit (code_file kind most code) → IsShort code
@@ -90,35 +52,12 @@ made-marks isa text made is marks named labelled = λ i.
 
 -- ---- a game
 
-pub game-comes : (e : Edition) (code : Code (List ℕ)) (Here : List ℕ → Outcome → Type 0) (bytes : List ℕ) → IsGame e code bytes → length bytes ≤ memory_size e
-    → (o : Outcome) → Here bytes o → GameComes e code Here o
-game-comes e (Bytes file) Here bytes is fits o here = subst (λ bytes. Here bytes o) is here
-game-comes e (Text text) Here bytes is fits o here = FitGame bytes o is fits here
-
-pub refused-game : (e : Edition) (code : Code (List ℕ)) (Here : List ℕ → Outcome → Type 0) (refusal : Refusal) → IsNoGame e code refusal
-    → RefusedBy (GameComes e code Here) refusal
-refused-game e (Bytes file) Here NoMemory answer = tt
-refused-game e (Bytes file) Here _ answer = absurd answer
-refused-game e (Text text) Here (Source line cause) answer = FaultyGame line cause answer
-refused-game e (Text text) Here (Misfit (Game edition)) answer = rw answer.0 (LargeGame answer.1 answer.2 answer.3)
-refused-game e (Text text) Here NoMemory answer = tt
-refused-game e (Text text) Here _ answer = absurd answer
+pub made-game : {Z : Type 0} (e : Edition) (text : List ℕ) (made : Made) → IsAssembly Chip8 (source_lines text) made → (r : Result (Vec ℕ Z) Refusal)
+    → MadeGameAnswers e made r → GameAnswers e (Text text) r
+made-game e text made is (Ok game) answer = (record { value = made; gives = is; here = answer }, answer.fits)
+made-game e text made is (Err refusal) answer = refused-behind (SourceComes Chip8 text) (FitComes e) made is refusal answer
 
 -- ---- a program
-
-pub image-comes : (memory : Memory) (code : Code (List ℕ)) (Here : List ℕ → List ℕ → Outcome → Type 0) (rom ram : List ℕ) → IsImage memory code rom ram
-    → (o : Outcome) → Here rom ram o → ImageComes memory code Here o
-image-comes memory (Bytes file) Here rom ram is o here = rw (is.0, is.1) at here
-image-comes memory (Text text) Here rom ram is o here = FitProgram o is.0 (rw (is.1, is.2) at here)
-
-pub refused-image : (memory : Memory) (code : Code (List ℕ)) (Here : List ℕ → List ℕ → Outcome → Type 0) (refusal : Refusal) → IsNoImage code refusal
-    → RefusedBy (ImageComes memory code Here) refusal
-refused-image memory (Bytes file) Here NoMemory answer = tt
-refused-image memory (Bytes file) Here _ answer = absurd answer
-refused-image memory (Text text) Here (Source line cause) answer = FaultyProgram line cause answer
-refused-image memory (Text text) Here (Misfit (Stray address)) answer = StrayProgram address answer.0 answer.1
-refused-image memory (Text text) Here NoMemory answer = tt
-refused-image memory (Text text) Here _ answer = absurd answer
 
 -- what an assembly gives, its source does
 module _ (memory : Memory) (text : List ℕ) (made : Made) (is : IsAssembly Cdp1802 (source_lines text) made) where
@@ -127,24 +66,35 @@ module _ (memory : Memory) (text : List ℕ) (made : Made) (is : IsAssembly Cdp1
 
   pub made-image : (r : Result Image Refusal) → MadeImageAnswers (made_byte made) r → ImageAnswers memory (Text text) r
   made-image (Ok image) answer = (
-    (
-      record { assembles = (made, is); in_memory = λ a low. sym (same_stray a low) ∙ answer.0 a low },
-      answer.1 ∙ same_bytes text made 0x8000 rom_size (omega arith) is,
-      answer.2 ∙ same_bytes text made 0 ram_size (omega arith) is,
-    ),
+    record {
+      value = made;
+      gives = is;
+      here = (
+        λ a low. sym (same_stray a low) ∙ answer.0 a low,
+        λ i. ((answer.1 ∙ same_bytes text made 0x8000 rom_size (omega arith) is) i, (answer.2 ∙ same_bytes text made 0 ram_size (omega arith) is) i),
+      );
+    },
     record {
       rom = rw (answer.1, length-bytes (made_byte made) 0x8000 rom_size) (omega arith);
       ram = rw (answer.2, length-bytes (made_byte made) 0 ram_size) (omega arith);
     },
   )
-  made-image (Err (Misfit (Stray address))) answer = (
-    (made, is),
-    record {
-      low = answer.low;
-      is = sym (same_stray address answer.low) ∙ answer.is;
-      least = λ a below. sym (same_stray a (omega (arith, below, answer.low))) ∙ answer.least a below;
-    },
-  )
+  made-image (Err (Misfit (Stray address))) answer =
+      inr (record {
+        value = made;
+        gives = is;
+        here =
+            record {
+              fault = address;
+              is =
+                  record {
+                    low = answer.low;
+                    is = sym (same_stray address answer.low) ∙ answer.is;
+                    least = λ a below. sym (same_stray a (omega (arith, below, answer.low))) ∙ answer.least a below;
+                  };
+              tells = refl;
+            };
+      })
   made-image (Err NoMemory) answer = tt
   made-image (Err _) answer = absurd answer
 
@@ -208,6 +158,7 @@ module _ (made made' : Made) (same : (a : ℕ) → a < 65536 → byte_at made a 
   one_raw : (a b : List ℕ) → IsRaw Chip8 made a → IsRaw Chip8 made' b → a ≡ b
   one_raw a b x y = x.are ∙ ap (span_bytes Chip8 made) (one_span x.span y.span x.is_span y.is_span) ∙ same_span y.span y.is_span ∙ sym y.are
 
-pub one_game : (text a b : List ℕ) → GivesGame text a → GivesGame text b → a ≡ b
-one_game text a b x y =
-    one_raw x.made y.made (λ at low. ap (option_map (λ cell. cell.byte)) (x.is.cells at low ∙ sym (y.is.cells at low))) a b x.raw.are y.raw.are
+pub one_game : (text : List ℕ) (made made' : Made) → IsAssembly Chip8 (source_lines text) made → IsAssembly Chip8 (source_lines text) made' → (a b : List ℕ)
+    → IsRawGame made a → IsRawGame made' b → a ≡ b
+one_game text made made' is is' a b x y =
+    one_raw made made' (λ at low. ap (option_map (λ cell. cell.byte)) (is.cells at low ∙ sym (is'.cells at low))) a b x.are y.are

@@ -1,6 +1,7 @@
 pub mod DemoLemmas
 pub mod FilesLemmas
 mod LoadingLemmas
+pub mod JudgedLemmas
 pub mod WorkLemmas
 pub mod CodeLemmas
 mod CertificateLemmas

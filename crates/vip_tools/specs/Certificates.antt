@@ -1,38 +1,39 @@
 -- What the verbs of certificates come to, by the contents of their files.
-use Rattle.std.specs.Prelude.{◌≡◌, ◌+◌, ◌≤◌, ℕ, List, [], ◌∷◌, ◌++◌, length, map, codes, decimal, Bool, true, false, Option, Some, None, option_map, unwrap_or, Ok, Err}
+use Rattle.std.specs.Prelude.{◌≡◌, ◌+◌, ◌≤◌, ℕ, List, [], ◌++◌, length, map, codes, decimal, Bool, true, false, Option, Some, None, option_map, unwrap_or, Ok, Err}
 use Rattle.std.specs.List.{range_with_len}
-use Rattle.arrayvec.specs.ArrayVec.{ArrayVec}
 use Rattle.machine.specs.Ranges.{FitsRom}
 use Rattle.chip8_lang.specs.declared.view.Edition.{Edition}
 use Rattle.vip_byte.specs.HexText.{hex4}
 use Rattle.vip_byte.specs.Text.{newline}
 use Rattle.asm_lex.specs.Names.{number_named, value_in}
 use Rattle.asm_lex.specs.declared.shape.Isa.TheVariants.{Cdp1802}
-use Rattle.asm_core.specs.Made.{Made, IsAssembly, cell_at}
-use Rattle.asm_core.specs.Sources.{source_lines, cell_before, HasFirstFault}
-use Rattle.asm_core.specs.declared.fault.AsmCause.{AsmCause}
+use Rattle.asm_core.specs.Made.{Made, IsAssembly, IsFirstOf, cell_at}
+use Rattle.asm_core.specs.Sources.{source_lines, cell_before}
 use Rattle.cycle_check.specs.Closed.{checked}
 use Rattle.cycle_check.specs.Exits.{exits_in, exits_text}
 use Rattle.cycle_check.specs.Found.{IsFound, IsTimingFault}
 use Rattle.cycle_check.specs.declared.Within.{Within}
-use Rattle.cycle_check.specs.declared.fault.CertCause.{CertCause}
 use Rattle.cycle_check.specs.declared.exits.Exit.{Exit}
+use Rattle.cycle_check.specs.declared.fault.CertFault.{CertFault}
 use Rattle.cycle_check.specs.declared.fault.CertFault.TheVariants as cert
+use Rattle.cycle_check.specs.declared.fault.TimingFault.{TimingFault}
+use Rattle.cycle_check.specs.declared.fault.TimingFault.TheVariants as timing
 use Rattle.cycle_check.specs.declared.fault.TimingFault.TheVariants.{NotFound}
-use Rattle.cycle_check.specs.declared.fault.TimingObstacle.{TimingObstacle}
-use Rattle.game_check.specs.Obstacles.{IsObstacle}
+use Rattle.game_check.specs.Obstacles.{IsFindFault}
 use Rattle.game_check.specs.Proof.{proof_of, IsAccepted}
-use Rattle.game_check.specs.declared.fault.Obstacle.{Obstacle}
-use Rattle.game_check.specs.declared.fault.ProofCause.{ProofCause}
+use Rattle.game_check.specs.declared.fault.FindFault.{FindFault}
+use Rattle.game_check.specs.declared.fault.FindFault.TheVariants as find
+use Rattle.game_check.specs.declared.fault.ProofFault.{ProofFault}
 use Rattle.game_check.specs.declared.fault.ProofFault.TheVariants as proof
-use Rattle.vip_tools.specs.Report.{bad_certificate, bad_proof, bad_source, no_certificate, no_timing}
 use Rattle.vip_tools.specs.declared.refusal.NoTiming.TheVariants.{Undefined, Obstacle as Ended_at}
-use Rattle.vip_tools.specs.declared.status.Status.TheVariants.{Done, BadCertificate, BadProof, BadSource}
+use Rattle.vip_tools.specs.declared.refusal.Refusal.{Refusal}
+use Rattle.vip_tools.specs.declared.refusal.Refusal.TheVariants.{Certificate, NoCertificate, NoMemory, NoTiming, Proof}
 use Rattle.vip_tools.specs.Files.{most_text, rom_size}
 use Rattle.vip_words.specs.declared.request.Entry.{Entry}
 use Rattle.vip_words.specs.declared.request.Entry.TheVariants.{Address, Name}
-use Rattle.vip_tools.specs.Outcome.{Outcome}
-use Rattle.vip_tools.specs.Outcome.Outcome.{Refused, Shown, GivenUp}
+use Rattle.vip_tools.specs.Judged.{Judged, bind, judged}
+use Rattle.vip_tools.specs.Opening.{source_refusal}
+use Rattle.vip_tools.specs.Outcome.{Output, Writes}
 
 -- ---- a certificate of cycles
 
@@ -61,6 +62,9 @@ pub record Assembled (source : List ℕ) : Type 0 where
   pub is : IsAssembly Cdp1802 (source_lines source) made
   pub fits : FitsRom (rom_in source)
 
+abbrev pub SourceRom : (source : List ℕ) → Judged (Assembled source)
+SourceRom source = judged (λ made. Unit {0}) (IsFirstOf Cdp1802 (source_lines source)) source_refusal
+
 unfoldable pub within_line : Within → List ℕ
 within_line within = codes "yes " ++ hex4 within.entry ++ codes " within " ++ decimal within.limit ++ newline
 
@@ -73,14 +77,18 @@ exits_asked false rom text = []
 abbrev pub routine_text : Within → List Exit → List ℕ
 routine_text within exits = within_line within ++ exits_text exits
 
+abbrev pub cert_refusal : CertFault → Refusal
+cert_refusal (cert.Fault line cause) = Certificate line cause
+cert_refusal cert.NoMemory = NoMemory
+
+-- a certificate for a ROM
+abbrev pub RoutineComes : List ℕ → List ℕ → Judged Within
+RoutineComes rom text = judged (λ within. checked rom text ≡ Ok within) (λ fault. checked rom text ≡ Err fault) cert_refusal
+
 -- The first fault of the source, the first fault of the certificate for its ROM, or the entry and the limit, and the exits where they are asked for.
-pub data CyclesComes (source text : List ℕ) (exits : Bool) : Outcome → Type 0 where
-  NotAssembled : (line : ℕ) (cause : AsmCause) → HasFirstFault Cdp1802 (source_lines source) line cause
-      → CyclesComes source text exits (Refused BadSource (bad_source line cause))
-  FaultyCertificate : (line : ℕ) (cause : CertCause) → Assembled source → checked (rom_in source) text ≡ Err (cert.Fault line cause)
-      → CyclesComes source text exits (Refused BadCertificate (bad_certificate line cause))
-  Leaves : (within : Within) → Assembled source → checked (rom_in source) text ≡ Ok within
-      → CyclesComes source text exits (Shown (routine_text within (exits_asked exits (rom_in source) text) ∷ []) Done [])
+abbrev pub CyclesComes : List ℕ → List ℕ → Bool → Judged Output
+CyclesComes source text exits =
+    bind (SourceRom source) (λ _. bind (RoutineComes (rom_in source) text) (λ within. Writes (routine_text within (exits_asked exits (rom_in source) text))))
 
 -- ---- a certificate of cycles that is searched for
 
@@ -89,32 +97,49 @@ abbrev pub entry_in : Made → Entry → Option ℕ
 entry_in made (Address address) = Some address
 entry_in made (Name name) = number_named (value_in made.names) name.items
 
--- The first fault of the source; that the entry's name has no number; some certificate of the routine, which is small enough for `cycles`; or where the
--- search for one ended, which is true of the source: of which routines one is found, and what is named where none is, nothing is said.
-pub data TimingComes (source : List ℕ) (entry : Entry) (p k : ℕ) : Outcome → Type 0 where
-  Unassembled : (line : ℕ) (cause : AsmCause) → HasFirstFault Cdp1802 (source_lines source) line cause
-      → TimingComes source entry p k (Refused BadSource (bad_source line cause))
-  HasNoEntry : (made : Assembled source) (name : ArrayVec ℕ) → entry ≡ Name name → entry_in made.made entry ≡ None
-      → TimingComes source entry p k (GivenUp (no_timing (Undefined name)))
-  Times : (made : Assembled source) (address : ℕ) (text : List ℕ) → entry_in made.made entry ≡ Some address
-      → IsFound (rom_in source) address p k text → length text ≤ most_text → TimingComes source entry p k (Shown (text ∷ []) Done [])
-  TimesNone : (made : Assembled source) (address : ℕ) (obstacle : TimingObstacle) → entry_in made.made entry ≡ Some address
-      → IsTimingFault (rom_in source) (record { entry = address; p = p; k = k; limit = 0 }) (NotFound obstacle)
-      → TimingComes source entry p k (GivenUp (no_timing (Ended_at obstacle)))
+abbrev pub EntryComes : Made → Entry → Judged ℕ
+EntryComes made entry =
+    judged (λ address. entry_in made entry ≡ Some address) (λ name. (entry ≡ Name name) × (entry_in made entry ≡ None)) (λ name. NoTiming (Undefined name))
+
+abbrev pub timing_refusal : TimingFault → Refusal
+timing_refusal (NotFound obstacle) = NoTiming (Ended_at obstacle)
+timing_refusal timing.NoMemory = NoMemory
+
+-- some certificate of a routine, which is small enough for `cycles`; or where the search for one ended, which is true of the ROM
+abbrev pub RoutineFound : List ℕ → ℕ → ℕ → ℕ → Judged (List ℕ)
+RoutineFound rom address p k =
+    judged (λ text. IsFound rom address p k text × (length text ≤ most_text)) (IsTimingFault rom (record { entry = address; p = p; k = k; limit = 0 })) timing_refusal
+
+-- The first fault of the source; that the entry's name has no number; some certificate; or where the search for one ended: of which routines one is found, and
+-- what is named where none is, nothing is said.
+abbrev pub TimingComes : List ℕ → Entry → ℕ → ℕ → Judged Output
+TimingComes source entry p k =
+    bind (SourceRom source) (λ made. bind (EntryComes made.made entry) (λ address. bind (RoutineFound (rom_in source) address p k) Writes))
 
 -- ---- a game's certificate
 
 unfoldable pub count_line : ℕ → List ℕ
 count_line count = codes "yes " ++ decimal count ++ newline
 
+abbrev pub proof_refusal : ProofFault → Refusal
+proof_refusal (proof.Fault line cause) = Proof line cause
+proof_refusal proof.NoMemory = NoMemory
+
+abbrev pub ProofComes : Edition → List ℕ → List ℕ → Judged ℕ
+ProofComes e game text = judged (λ count. proof_of e game text ≡ Ok count) (λ fault. proof_of e game text ≡ Err fault) proof_refusal
+
 -- the first fault of the certificate, or how many lines of it say something
-pub data SafeComes (e : Edition) (game text : List ℕ) : Outcome → Type 0 where
-  FaultyProof : (line : ℕ) (cause : ProofCause) → proof_of e game text ≡ Err (proof.Fault line cause)
-      → SafeComes e game text (Refused BadProof (bad_proof line cause))
-  Proves : (count : ℕ) → proof_of e game text ≡ Ok count → SafeComes e game text (Shown (count_line count ∷ []) Done [])
+abbrev pub SafeComes : Edition → List ℕ → List ℕ → Judged Output
+SafeComes e game text = bind (ProofComes e game text) (λ count. Writes (count_line count))
+
+abbrev pub find_refusal : FindFault → Refusal
+find_refusal (find.NotFound obstacle) = NoCertificate obstacle
+find_refusal find.NoMemory = NoMemory
+
+abbrev pub ProofFound : Edition → List ℕ → Judged (List ℕ)
+ProofFound e game = judged (λ text. IsAccepted e game text × (length text ≤ most_text)) (IsFindFault e game) find_refusal
 
 -- Some certificate that `safe` accepts, which is small enough for it; or where the search for one ended, which is true of the game: of which games one is
 -- found, and what is named where none is, nothing is said.
-pub data CertifyComes (e : Edition) (game : List ℕ) : Outcome → Type 0 where
-  Finds : (text : List ℕ) → IsAccepted e game text → length text ≤ most_text → CertifyComes e game (Shown (text ∷ []) Done [])
-  FindsNone : (obstacle : Obstacle) → IsObstacle e game obstacle → CertifyComes e game (GivenUp (no_certificate obstacle))
+abbrev pub CertifyComes : Edition → List ℕ → Judged Output
+CertifyComes e game = bind (ProofFound e game) Writes

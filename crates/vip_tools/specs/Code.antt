@@ -4,9 +4,8 @@ use Rattle.chip8_lang.specs.State.{memory_size}
 use Rattle.chip8_lang.specs.declared.view.Edition.{Edition}
 use Rattle.asm_core.specs.Made.{Made, IsAssembly}
 use Rattle.asm_core.specs.Labels.{labels_of}
-use Rattle.asm_core.specs.Sources.{source_lines, all_names, HasFirstFault}
+use Rattle.asm_core.specs.Sources.{source_lines, all_names}
 use Rattle.asm_lex.specs.Names.{number_named, value_in}
-use Rattle.asm_core.specs.declared.fault.AsmCause.{AsmCause}
 use Rattle.asm_lex.specs.declared.shape.Isa.{Isa}
 use Rattle.asm_lex.specs.declared.shape.Isa.TheVariants.{Cdp1802, Chip8}
 use Rattle.asm_listing.specs.Raw.{IsRaw}
@@ -17,32 +16,47 @@ use Rattle.vip_words.specs.declared.request.Memory.TheVariants.{Rom, Ram}
 use Rattle.vip_tools.specs.Certificates as bytes
 use Rattle.vip_tools.specs.Certificates.{bytes_at, rom_in, source_byte}
 use Rattle.vip_tools.specs.Files.{most_text, ram_size, rom_size}
-use Rattle.vip_tools.specs.Outcome.{Outcome}
-use Rattle.vip_tools.specs.Outcome.Outcome.{Refused}
-use Rattle.vip_tools.specs.Report.{bad_source, misfit_report}
+use Rattle.vip_tools.specs.Judged.{AnswersAs, Judged, RefusedBy, bind, each, judged, only}
+use Rattle.vip_tools.specs.Judged.Verdict.{Given}
+use Rattle.vip_tools.specs.Opening.{SourceComes}
 use Rattle.vip_tools.specs.declared.code.Image.{Image}
 use Rattle.vip_tools.specs.declared.code.Marks.{Marks}
 use Rattle.vip_tools.specs.declared.refusal.Misfit.TheVariants.{Game, Stray}
 use Rattle.vip_tools.specs.declared.refusal.Refusal.{Refusal}
 use Rattle.vip_tools.specs.declared.refusal.Refusal.TheVariants as refusal
-use Rattle.vip_tools.specs.declared.status.Status.TheVariants.{BadSource, GameTooLarge, StrayByte}
+use Rattle.vip_tools.specs.declared.refusal.Refusal.TheVariants.{Misfit}
 
--- ---- a source
-
--- it is assembled
-abbrev pub Assembles : Isa → List ℕ → Type 0
-Assembles isa text = (made : Made) × IsAssembly isa (source_lines text) made
+-- ---- a game
 
 -- these are the bytes of an assembled game, from 0200 on
 pub record IsRawGame (made : Made) (game : List ℕ) : Type 0 where
   pub are : IsRaw Chip8 made game
   pub bytes : (i : ℕ) → slice_index game i < 256
 
--- a source in CHIP-8's words gives this game
-pub record GivesGame (text game : List ℕ) : Type 0 where
-  pub made : Made
-  pub is : IsAssembly Chip8 (source_lines text) made
+-- an assembled game fits into its edition's memory, or has more bytes
+pub record IsFitGame (e : Edition) (made : Made) (game : List ℕ) : Type 0 where
   pub raw : IsRawGame made game
+  pub fits : length game ≤ memory_size e
+
+pub record IsLarge (e : Edition) (made : Made) (edition : Edition) : Type 0 where
+  pub same : edition ≡ e
+  pub game : List ℕ
+  pub raw : IsRawGame made game
+  pub large : memory_size e < length game
+
+abbrev pub FitComes : Edition → Made → Judged (List ℕ)
+FitComes e made = judged (IsFitGame e made) (IsLarge e made) (λ edition. Misfit (Game edition))
+
+-- The game of code: the bytes of a file; or of a source its first fault, a game that is too large, or the game that it gives.
+abbrev pub GameComes : Edition → Code (List ℕ) → Judged (List ℕ)
+GameComes e (Bytes game) = only game
+GameComes e (Source text) = bind (SourceComes Chip8 text) (FitComes e)
+
+-- ---- a program
+
+-- a source is assembled
+abbrev pub Assembles : Isa → List ℕ → Type 0
+Assembles isa text = (made : Made) × IsAssembly isa (source_lines text) made
 
 -- the memories of the board: the RAM below 1000, and the ROM from 8000 to 87FF
 abbrev pub is_memory : ℕ → Bool
@@ -67,32 +81,6 @@ IsStray bytes (Some address) = IsLeastStray bytes address
 abbrev pub ram_in : List ℕ → List ℕ
 ram_in text = bytes_at (source_byte text) 0 ram_size
 
--- a source gives the board's memories their bytes, and no other address one
-pub record GivesMemories (text : List ℕ) : Type 0 where
-  pub assembles : Assembles Cdp1802 text
-  pub in_memory : IsStray (source_byte text) None
-
--- ---- what comes of code, by what comes of the bytes that it gives
-
--- of a game's source its first fault, a game that is too large, or what comes of the game
-pub data SourceGame (e : Edition) (text : List ℕ) (Here : List ℕ → Outcome → Type 0) : Outcome → Type 0 where
-  FaultyGame : (line : ℕ) (cause : AsmCause) → HasFirstFault Chip8 (source_lines text) line cause
-      → SourceGame e text Here (Refused BadSource (bad_source line cause))
-  LargeGame : (game : List ℕ) → GivesGame text game → memory_size e < length game → SourceGame e text Here (Refused GameTooLarge (misfit_report (Game e)))
-  FitGame : (game : List ℕ) (o : Outcome) → GivesGame text game → length game ≤ memory_size e → Here game o → SourceGame e text Here o
-
-abbrev pub GameComes : Edition → Code (List ℕ) → (List ℕ → Outcome → Type 0) → Outcome → Type 0
-GameComes e (Bytes game) Here = Here game
-GameComes e (Source text) Here = SourceGame e text Here
-
--- of a program's source its first fault, the least address of a byte where no memory is, or what comes of both memories
-pub data SourceProgram (text : List ℕ) (Here : List ℕ → List ℕ → Outcome → Type 0) : Outcome → Type 0 where
-  FaultyProgram : (line : ℕ) (cause : AsmCause) → HasFirstFault Cdp1802 (source_lines text) line cause
-      → SourceProgram text Here (Refused BadSource (bad_source line cause))
-  StrayProgram : (address : ℕ) → Assembles Cdp1802 text → IsLeastStray (source_byte text) address
-      → SourceProgram text Here (Refused StrayByte (misfit_report (Stray address)))
-  FitProgram : (o : Outcome) → GivesMemories text → Here (rom_in text) (ram_in text) o → SourceProgram text Here o
-
 -- the bytes of the ROM and of the RAM, where a file has those of the memory in which it starts
 abbrev pub in_rom : Memory → List ℕ → List ℕ
 in_rom Rom program = program
@@ -102,9 +90,15 @@ abbrev pub in_ram : Memory → List ℕ → List ℕ
 in_ram Rom program = []
 in_ram Ram program = program
 
-abbrev pub ImageComes : Memory → Code (List ℕ) → (List ℕ → List ℕ → Outcome → Type 0) → Outcome → Type 0
-ImageComes memory (Bytes program) Here = Here (in_rom memory program) (in_ram memory program)
-ImageComes memory (Source text) Here = SourceProgram text Here
+-- The bytes of both memories, by the code of a program: those of a file; or of a source its first fault, the least address of a byte where no memory is, or what
+-- it gives.
+abbrev pub LaidComes : List ℕ → Judged (List ℕ × List ℕ)
+LaidComes text =
+    judged (λ image. IsStray (source_byte text) None × (image ≡ (rom_in text, ram_in text))) (IsLeastStray (source_byte text)) (λ address. Misfit (Stray address))
+
+abbrev pub ImageComes : Memory → Code (List ℕ) → Judged (List ℕ × List ℕ)
+ImageComes memory (Bytes program) = only (in_rom memory program, in_ram memory program)
+ImageComes memory (Source text) = bind (SourceComes Cdp1802 text) (λ made. LaidComes text)
 
 -- ---- what is known of code besides its bytes
 
@@ -130,62 +124,25 @@ IsShort (Source text) = length text ≤ most_text
 abbrev pub marked : Marks → Known
 marked marks = record { names = number_named (value_in marks.names); labels = marks.labels }
 
--- a source that has none has a fault
-abbrev pub IsUnmarked : Isa → Code (List ℕ) → Refusal → Type 0
-IsUnmarked isa (Source text) (refusal.Source line cause) = HasFirstFault isa (source_lines text) line cause
-IsUnmarked isa code refusal.NoMemory = Unit {0}
-IsUnmarked isa code _ = ⊥
+-- the assembly of code that is a source
+abbrev pub AssemblyComes : Isa → Code (List ℕ) → Judged Made
+AssemblyComes isa (Bytes bytes) = each (λ made. ⊥)
+AssemblyComes isa (Source text) = SourceComes isa text
 
 abbrev pub MarksAnswer : Isa → Code (List ℕ) → Result Marks Refusal → Type 0
 MarksAnswer isa code (Ok marks) = marked marks ≡ known_of isa code
-MarksAnswer isa code (Err refusal) = IsUnmarked isa code refusal
-
--- ---- of the game of code, that of a file or one that a source gives, this holds
-
-pub record OfSource (text : List ℕ) (Here : List ℕ → Type 0) : Type 0 where
-  pub game : List ℕ
-  pub gives : GivesGame text game
-  pub here : Here game
-
-abbrev pub OfGame : Code (List ℕ) → (List ℕ → Type 0) → Type 0
-OfGame (Bytes game) Here = Here game
-OfGame (Source text) Here = OfSource text Here
+MarksAnswer isa code (Err refusal) = RefusedBy (AssemblyComes isa code) refusal
 
 -- ---- what the calls answer
 
-abbrev pub IsGame : Edition → Code (List ℕ) → List ℕ → Type 0
-IsGame e (Bytes bytes) game = game ≡ bytes
-IsGame e (Source text) game = GivesGame text game
-
-abbrev pub IsNoGame : Edition → Code (List ℕ) → Refusal → Type 0
-IsNoGame e (Source text) (refusal.Source line cause) = HasFirstFault Chip8 (source_lines text) line cause
-IsNoGame e (Source text) (refusal.Misfit (Game edition)) = (edition ≡ e) × (game : List ℕ) × GivesGame text game × (memory_size e < length game)
-IsNoGame e code refusal.NoMemory = Unit {0}
-IsNoGame e code _ = ⊥
-
--- a game by its code
 module _ {Z : Type 0} where
-  abbrev pub GameAnswers : Edition → Code (List ℕ) → Result (Vec ℕ Z) Refusal → Type 0
-  GameAnswers e code (Ok game) = IsGame e code game.items × (length game.items ≤ memory_size e)
-  GameAnswers e code (Err refusal) = IsNoGame e code refusal
-
-  -- an assembled game
+  -- the game of an assembled source, or of code
   abbrev pub MadeGameAnswers : Edition → Made → Result (Vec ℕ Z) Refusal → Type 0
-  MadeGameAnswers e made (Ok game) = IsRawGame made game.items × (length game.items ≤ memory_size e)
-  MadeGameAnswers e made (Err (refusal.Misfit (Game edition))) = (edition ≡ e) × (game : List ℕ) × IsRawGame made game × (memory_size e < length game)
-  MadeGameAnswers e made (Err refusal.NoMemory) = Unit {0}
-  MadeGameAnswers e made (Err _) = ⊥
+  MadeGameAnswers e made = AnswersAs (λ (game : Vec ℕ Z). game.items) (FitComes e made)
 
--- both memories by a program's code
-abbrev pub IsImage : Memory → Code (List ℕ) → List ℕ → List ℕ → Type 0
-IsImage memory (Bytes bytes) rom ram = (rom ≡ in_rom memory bytes) × (ram ≡ in_ram memory bytes)
-IsImage memory (Source text) rom ram = GivesMemories text × (rom ≡ rom_in text) × (ram ≡ ram_in text)
-
-abbrev pub IsNoImage : Code (List ℕ) → Refusal → Type 0
-IsNoImage (Source text) (refusal.Source line cause) = HasFirstFault Cdp1802 (source_lines text) line cause
-IsNoImage (Source text) (refusal.Misfit (Stray address)) = Assembles Cdp1802 text × IsLeastStray (source_byte text) address
-IsNoImage code refusal.NoMemory = Unit {0}
-IsNoImage code _ = ⊥
+  abbrev pub GameAnswers : Edition → Code (List ℕ) → Result (Vec ℕ Z) Refusal → Type 0
+  GameAnswers e code (Ok game) = GameComes e code (Given game.items) × (length game.items ≤ memory_size e)
+  GameAnswers e code (Err refusal) = RefusedBy (GameComes e code) refusal
 
 -- the bytes fit into the memories
 pub record FitsMemories (image : Image) : Type 0 where
@@ -193,8 +150,8 @@ pub record FitsMemories (image : Image) : Type 0 where
   pub ram : length image.ram.items ≤ ram_size
 
 abbrev pub ImageAnswers : Memory → Code (List ℕ) → Result Image Refusal → Type 0
-ImageAnswers memory code (Ok image) = IsImage memory code image.rom.items image.ram.items × FitsMemories image
-ImageAnswers memory code (Err refusal) = IsNoImage code refusal
+ImageAnswers memory code (Ok image) = ImageComes memory code (Given (image.rom.items, image.ram.items)) × FitsMemories image
+ImageAnswers memory code (Err refusal) = RefusedBy (ImageComes memory code) refusal
 
 -- both memories of an assembly
 abbrev pub MadeImageAnswers : bytes.Bytes → Result Image Refusal → Type 0

@@ -1,7 +1,8 @@
 -- The pages of the verbs, made of their table, and the version of the program.
 use Rattle.std.specs.Prelude.{ℕ, List, ◌++◌, Bool, true, codes, drop, flat_map, if◌then◌else◌, length, min, Option, Some, None}
 use Rattle.vip_byte.specs.Text.{newline}
-use Rattle.vip_tools.specs.Outcome.{Outcome, Writes}
+use Rattle.vip_tools.specs.Judged.{Judged}
+use Rattle.vip_tools.specs.Outcome.{Output, Writes}
 use Rattle.vip_words.specs.Rules.{Word}
 use Rattle.vip_words.specs.Table.{Row, about, every_verb, row, with_value}
 use Rattle.vip_words.specs.declared.table.Verb.{Verb}
@@ -48,10 +49,10 @@ abbrev pub help_text : Option Verb → List ℕ
 help_text None = verbs_page
 help_text (Some verb) = verb_page (row verb)
 
-abbrev pub HelpComes : Option Verb → Outcome → Type 0
+abbrev pub HelpComes : Option Verb → Judged Output
 HelpComes verb = Writes (help_text verb)
 
 -- ---- the version
 
-abbrev pub VersionComes : Outcome → Type 0
+abbrev pub VersionComes : Judged Output
 VersionComes = Writes (codes "vip 1.1-dev" ++ newline)

@@ -1,8 +1,10 @@
 pub mod Files
 pub mod Loading
 pub mod Demo
+pub mod Judged
 pub mod Outcome
 pub mod Opening
+pub mod Sources
 pub mod Work
 pub mod Certificates
 pub mod Checks

@@ -4,9 +4,10 @@ ghost use Rattle.std.specs.Prelude.{◌≡◌, ◌≤◌, ◌⊎◌, [], length,
 ghost use Rattle.chip8_lang.specs.State.{memory_size};
 ghost use Rattle.cycle_check.specs.Closed.{checked};
 ghost use Rattle.cycle_check.specs.declared.fault.CertFault.TheVariants.{NoMemory};
-ghost use Rattle.vip_tools.specs.Certificates.{CertifyComes, CyclesComes, SafeComes, TimingComes, bytes_at, count_line, exits_asked, made_byte, routine_text, within_line};
-ghost use Rattle.vip_tools.specs.Checks.{CertificateAnswers, EntryAnswers, ProofAnswers, RomAnswers};
+ghost use Rattle.vip_tools.specs.Certificates.{CertifyComes, CyclesComes, EntryComes, ProofComes, SafeComes, TimingComes, bytes_at, count_line, exits_asked, made_byte, routine_text, within_line};
+ghost use Rattle.vip_tools.specs.Checks.{CertificateAnswers, RomAnswers};
 ghost use Rattle.vip_tools.specs.Files.{most_text, rom_size};
+ghost use Rattle.vip_tools.specs.Judged.{Answers};
 ghost use Rattle.vip_tools.specs.Work.{TextAnswers};
 
 use crate::code::{ROM_START, lay_out};
@@ -87,7 +88,7 @@ fn checked_game<'a>(
 ) -> Result<u32, Refusal<'a>>
     requires game { length game.now ≤ memory_size edition }
     requires certificate { length certificate.now ≤ most_text }
-    ensures { ProofAnswers edition game.now certificate.now result }
+    ensures { Answers (ProofComes edition game.now certificate.now) result }
 {
     match check_game(alloc, edition, game, certificate) {
         Ok(count) => Ok(count),
@@ -153,7 +154,7 @@ pub fn cycles<'a>(
 
 /// The address at which a routine of an assembled source is entered.
 fn entry_address<'a>(made: &Assembly, entry: Entry) -> Result<u16, Refusal<'a>>
-    ensures { EntryAnswers made.now entry result }
+    ensures { Answers (EntryComes made.now entry) result }
 {
     match entry {
         Entry::Address(address) => Ok(address),

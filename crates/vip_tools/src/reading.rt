@@ -3,7 +3,8 @@
 ghost use Rattle.std.specs.Prelude.{◌≤◌, length};
 ghost use Rattle.asm_lex.specs.Names.{number_named, value_in};
 ghost use Rattle.vip_tools.specs.Files.{most_text, script_files, AreFit};
-ghost use Rattle.vip_tools.specs.Opening.{KeysAnswer, DebugCommandsAnswer, keys_in};
+ghost use Rattle.vip_tools.specs.Judged.{Answers};
+ghost use Rattle.vip_tools.specs.Opening.{CommandsCome, ScriptComes, keys_in};
 
 use crate::Refusal;
 use asm_lex::Symbols;
@@ -14,7 +15,7 @@ use vip_words::{CommandFault, Commands, Speaks, read_commands};
 /// The key script of a run, which is empty where no file is given.
 pub fn read_keys<'a>(alloc: Global, script: Option<Vec<u8>>) -> Result<Script, Refusal<'a>>
     requires { AreFit (script_files (keys_in script)) }
-    ensures { KeysAnswer (keys_in script) result }
+    ensures { Answers (ScriptComes (keys_in script)) result }
 {
     let Some(text) = script else {
         return Ok(Script::empty(alloc));
@@ -36,7 +37,7 @@ pub fn read_debugging<'a>(
     limit: u64,
 ) -> Result<Commands, Refusal<'a>>
     requires { length text.now ≤ most_text }
-    ensures { DebugCommandsAnswer speaks (number_named (value_in names.now)) echo limit text.now result }
+    ensures { Answers (CommandsCome speaks (number_named (value_in names.now)) echo limit text.now) result }
 {
     match read_commands(alloc, speaks, names, echo, text, limit) {
         Ok(commands) => Ok(commands),

@@ -3,8 +3,10 @@
 ghost use Rattle.std.specs.Prelude.{◌≤◌, length, IfOk};
 ghost use Rattle.asm_listing.specs.Disassembly.{HasPlace};
 ghost use Rattle.vip_tools.specs.Files.{most_text};
-ghost use Rattle.vip_tools.specs.Opening.{SourceAnswers};
-ghost use Rattle.vip_tools.specs.Outcome.{AsmComes, BoundsComes, DisComes, IsBytes, ListComes, TextComes};
+ghost use Rattle.vip_tools.specs.Judged.{Answers};
+ghost use Rattle.vip_tools.specs.Opening.{SourceComes};
+ghost use Rattle.vip_tools.specs.Outcome.{BoundsComes, TextComes};
+ghost use Rattle.vip_tools.specs.Sources.{AsmComes, DisComes, IsBytes, ListComes};
 ghost use Rattle.vip_tools.specs.Work.{CheckAnswers, TextAnswers};
 
 use crate::Refusal;
@@ -23,7 +25,7 @@ pub(crate) fn make_assembly<'a>(
     source: &[u8],
 ) -> Result<Assembly, Refusal<'a>>
     requires { length source.now ≤ most_text }
-    ensures { SourceAnswers isa source.now result }
+    ensures { Answers (SourceComes isa source.now) result }
 {
     match assemble(alloc, isa, source) {
         Ok(made) => Ok(made),

@@ -1,5 +1,5 @@
 -- What `link` answers, from the answers of its parts, and what its work does.
-use Rattle.std.proofs.Common.{◌≡◌, ℕ, ◌+◌, ◌≤◌, List, [], ◌∷◌, length, refl, sym, ap, ap₂, subst, ◌∙◌, Ok, Err}
+use Rattle.std.proofs.Common.{◌≡◌, ℕ, ◌+◌, ◌≤◌, List, [], ◌∷◌, length, refl, sym, ap, ap₂, subst, ◌∙◌, Ok}
 use Rattle.vip_link.specs.Laws.{most_bytes}
 use Rattle.vip_link.specs.Links.{Linking, started}
 use Rattle.vip_link.specs.Pair.{Pair, scheduled}
@@ -11,27 +11,15 @@ use Rattle.vip_outside.proofs.PiecesLemmas.{PutsAll-one}
 use Rattle.vip_outside.specs.Pieces.{PutsAll}
 use Rattle.vip_tools.specs.Report.{linked_report}
 use Rattle.vip_tools.specs.declared.ended.Ended.TheVariants.{Linked}
-use Rattle.vip_tools.specs.declared.refusal.Refusal.{Refusal}
-use Rattle.vip_tools.specs.declared.refusal.Refusal.TheVariants.{Rom, NoMemory}
-use Rattle.vip_tools.specs.Work.{RefusedBy}
-use Rattle.vip_verbs.specs.Outcome.{LinkComes, linked_after}
-use Rattle.vip_verbs.specs.Opening.{LinkRomsAnswer}
-use Rattle.vip_verbs.specs.Outcome.LinkComes.{FaultyRoms, Links}
-use Rattle.vip_tools.specs.declared.status.Status.TheVariants.{Done}
-use Rattle.vip_verbs.specs.Prepared.{IsJoined, Performs, linked}
+use Rattle.vip_verbs.specs.Outcome.{LinkComes, linked, linked_after}
+use Rattle.vip_verbs.specs.Prepared.{IsJoined, PerformAnswers}
 
 module _ (message : List ℕ) (moves number : ℕ) where
-  -- a ROM isn't what its source gives
-  pub refused-roms : (refusal : Refusal) → LinkRomsAnswer (Err refusal) → RefusedBy (LinkComes message moves number) refusal
-  refused-roms (Rom fault) answer = FaultyRoms fault answer.0 answer.1
-  refused-roms NoMemory answer = tt
-  refused-roms _ answer = absurd answer
-
   -- both boards are joined, so their output is settled
-  pub link-comes : (l : Linking) → l ≡ started message → ComparesLink (Ok tt)
-      → LinkComes message moves number (linked (linked_after number moves l.message))
+  pub link-comes : (l : Linking) → l ≡ started message → ComparesLink (Ok tt) → LinkComes message moves number (linked (linked_after number moves l.message))
   link-comes l e roms =
-      subst (λ m. LinkComes message moves number (linked (linked_after number moves m))) (sym (ap (λ (l : Linking). l.message) e)) (Links roms _ refl)
+      subst (λ m. LinkComes message moves number (linked (linked_after number moves m))) (sym (ap (λ (l : Linking). l.message) e))
+      (record { value = tt; gives = roms; here = refl })
 
 pub joined-of : (message : List ℕ) (l : Linking) → l ≡ started message → length message ≤ most_bytes → IsJoined l
 joined-of message l e short = subst IsJoined (sym e) (record { is = refl; short = short })
@@ -47,9 +35,9 @@ pair-of l after number moves h e =
 -- the output went out
 pub link-performs :
     (s t : Pair) (old new : SinkMeaning) (piece received : List ℕ) (sent : ℕ) → s ≡ t → piece ≡ s.received → received ≡ s.received → sent ≡ length s.sent
-    → PutsWhole piece old new → Performs (t.received ∷ []) Done (linked_report (length t.sent) (length t.received)) old new (Linked sent (length received))
+    → PutsWhole piece old new → PerformAnswers (linked t) old new (Ok (Linked sent (length received)))
 link-performs s t old new piece received sent same e f g puts =
-    subst (λ t. Performs (t.received ∷ []) Done (linked_report (length t.sent) (length t.received)) old new (Linked sent (length received))) same
+    subst (λ t. PerformAnswers (linked t) old new (Ok (Linked sent (length received)))) same
     (record {
       puts = subst (λ p. PutsAll (p ∷ []) old new) e (PutsAll-one piece old new puts);
       status_is = refl;

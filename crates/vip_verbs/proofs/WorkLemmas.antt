@@ -1,5 +1,5 @@
 -- What a verb that is opened answers, from the answers of its parts, and what its work does.
-use Rattle.std.proofs.Common.{◌≡◌, ℕ, max, true, false, List, refl, sym, ap, ◌∙◌, subst, Result, Ok, Err, IsErrAnd}
+use Rattle.std.proofs.Common.{◌≡◌, ℕ, max, true, false, List, [], refl, sym, ap, ◌∙◌, subst, Result, Ok, Err, IsErrAnd}
 use Rattle.std.specs.Prelude.{Option, Some, None, Vec}
 use Rattle.std.specs.declared.alloc.Global.{Global}
 use Rattle.std.proofs.Math.Nat.{max-zero}
@@ -34,27 +34,31 @@ use Rattle.vip_tools.specs.declared.fault.PerformFault.{PerformFault}
 use Rattle.vip_tools.specs.declared.fault.PerformFault.TheVariants.{WriteFault}
 use Rattle.vip_tools.specs.declared.status.Status.{Status}
 use Rattle.vip_tools.specs.declared.refusal.Refusal.{Refusal}
-use Rattle.vip_tools.specs.declared.refusal.Refusal.TheVariants.{Usage, Unread, TooLarge, Script, Command, Source, Misfit, State, Rom, Certificate, Proof, NoCertificate, NoMemory, NoTiming}
+use Rattle.vip_tools.specs.declared.refusal.Refusal.TheVariants.{Unread, TooLarge, State, NoMemory}
 use Rattle.vip_tools.specs.Report.{end_report}
 use Rattle.vip_tools.specs.Status.{end_status}
 use Rattle.vip_text.specs.declared.ending.RunEnd.{RunEnd}
 use Rattle.vip_tools.specs.Files.{FilesRefused, IsLoaded, Loaded, files_of, needed}
-use Rattle.vip_tools.proofs.CodeLemmas.{game-comes, refused-game, refused-so, unmarked-game}
+use Rattle.vip_tools.proofs.CodeLemmas.{unassembled-game}
+use Rattle.vip_tools.proofs.JudgedLemmas.{behind, by-each, by-tail, refused-behind, refused-first, refused-so}
 use Rattle.vip_tools.proofs.FilesLemmas.{reads-all}
-use Rattle.vip_tools.specs.Opening.{KeysAnswer}
+use Rattle.vip_tools.specs.Judged.{By, Cause, Judged, RefusedBy, bind, cause_of, each, only}
+use Rattle.vip_tools.specs.Judged.Cause.{Elsewhere, Memory, Fault, Nothing}
+use Rattle.vip_tools.specs.Judged.Verdict.{Given}
+use Rattle.vip_tools.specs.Opening.{CommandsCome, ScriptComes}
+use Rattle.vip_words.specs.declared.debug_commands.Speaks.TheVariants.{Chip8}
 use Rattle.asm_lex.specs.declared.shape.Isa.TheVariants.{Chip8 as Chip8Words}
 use Rattle.vip_words.specs.declared.request.Code.{Code}
 use Rattle.vip_tools.specs.declared.code.Marks.{Marks}
-use Rattle.vip_tools.specs.Code.{Known, MarksAnswer}
-use Rattle.vip_tools.specs.Outcome.{CheckComes, Outcome, script_in}
-use Rattle.vip_tools.specs.Outcome.Outcome.{Shown}
-use Rattle.vip_tools.specs.Work.{CheckAnswers, RefusedBy, TextAnswers}
+use Rattle.vip_tools.specs.Code.{GameComes, Known, MarksAnswer}
+use Rattle.vip_tools.specs.Outcome.{Ends, Outcome, Output, Shown}
+use Rattle.vip_tools.specs.Sources.{CheckComes}
+use Rattle.vip_tools.specs.Work.{CheckAnswers, TextAnswers}
 use Rattle.asm_lex.specs.declared.shape.Isa.{Isa}
 use Rattle.asm_listing.specs.declared.report_text.CheckText.{CheckText}
-use Rattle.vip_verbs.specs.Opening.{BeginAnswers, BeginsAt, IsBeginning as IsBegin, IsNoBeginning, IsShow, IsWhole, MarksAtStart, RomAnswers, ShowReady, StartAnswers, Starts}
-use Rattle.vip_verbs.specs.Outcome.{Accepts, Begins, HasOutcome, RunTo, ShowComes, debug_ending, debugged_to, limit_from, ran, saved_as, stopped_by}
-use Rattle.vip_verbs.specs.Outcome.RunTo.{FaultyScript, FaultyRom, Runs}
-use Rattle.vip_verbs.specs.Prepared.{DebugEnds, IsBeginning, OpenAnswers, PerformAnswers, PrepareAnswers, ended_by, checked, run_ended, save_ended, shown_as, texted}
+use Rattle.vip_verbs.specs.Opening.{BeginComes, BeginsAt, CommandsIn, IsBeginning as IsBegin, IsShow, IsStarted, IsWhole, MarksAtStart, Started}
+use Rattle.vip_verbs.specs.Outcome.{HasOutcome, RomComes, RunStart, RunTo, ShowComes, StartComes, debug_ending, debugged, debugged_to, limit_from, ran, saved_as, stopped_by}
+use Rattle.vip_verbs.specs.Prepared.{DebugEnds, IsBeginning, NotOpened, OpenAnswers, PerformAnswers, PrepareAnswers, ended_by, checked, run_ended, save_ended, shown_as, texted}
 use Rattle.vip_verbs.specs.declared.opening.Beginning.{Beginning}
 use Rattle.vip_verbs.specs.declared.opening.Beginning.TheVariants as beginning
 use Rattle.vip_verbs.specs.declared.prepared.Prepared.{Prepared}
@@ -62,7 +66,7 @@ use Rattle.vip_verbs.specs.declared.prepared.ReadyShow.{ReadyShow}
 
 -- ---- a run that begins
 
-pub beginning-of : (e : Edition) (s : Start) (script : List KeyEvent) (v : VipState) → Starts e s script v → IsBeginning v
+pub beginning-of : (e : Edition) (s : Start) (script : List KeyEvent) (v : VipState) → IsStarted e s script v → IsBeginning v
 beginning-of e s script v starts = record { start = s; script = script; is = rw starts.is refl; runs = starts.runs }
 
 -- it is what begins with its own edition, start and script
@@ -73,132 +77,82 @@ begun-of v begins = subst (λ (u : VipState). u ≡ begun u.edition u.start u.bo
 pub fresh-of : (v : VipState) → IsBeginning v → IsFresh v
 fresh-of v begins = fresh-begun v v.edition begins.start begins.script begins.is begins.runs
 
--- what holds of every edition and start holds of those of a run whose bytes are whole, and what follows there follows of the run
-module _ (Q : Edition → Start → Type 0) where
-  pub begins-all : (at : Beginning) → IsWhole at → ((e : Edition) (s : Start) → Q e s) → BeginsAt at Q
-  begins-all (beginning.Reset game edition) whole all = all edition (Reset game.items)
-  begins-all (beginning.Saved file) whole all = record { edition = whole.0; accepted = whole.1; here = all whole.0 (Saved file.items) }
+-- what holds of every edition and start holds of those of a run whose bytes are whole
+pub begins-all : (Q : Edition → Start → Type 0) (at : Beginning) → IsWhole at → ((e : Edition) (s : Start) → Q e s) → BeginsAt at Q
+begins-all Q (beginning.Reset game edition) whole all =
+    record { value = record { edition = edition; start = Reset game.items }; gives = refl; here = all edition (Reset game.items) }
+begins-all Q (beginning.Saved file) whole all =
+    record {
+      value = record { edition = whole.0; start = Saved file.items };
+      gives = record { accepted = whole.1; saved = refl };
+      here = all whole.0 (Saved file.items);
+    }
 
-  pub begins-map : (P : Edition → Start → Type 0) (at : Beginning) → ((e : Edition) (s : Start) → Q e s → P e s) → BeginsAt at Q → BeginsAt at P
-  begins-map P (beginning.Reset game edition) follows here = follows edition (Reset game.items) here
-  begins-map P (beginning.Saved file) follows here =
-      record { edition = here.edition; accepted = here.accepted; here = follows here.edition (Saved file.items) here.here }
+-- what comes of the bytes with which a run begins comes of the run
+module _ (Here : Edition → Start → Judged Output) (start : asked.Start (List ℕ)) (at : Beginning) (is : IsBegin start at) where
+  pub begun-comes : (o : Outcome) → BeginsAt at (λ e s. Here e s o) → bind (StartComes start) (λ s. Here s.edition s.start) o
+  begun-comes o x = behind (StartComes start) (λ s. Here s.edition s.start) x.value (is x.value x.gives) o x.here
 
-  pub begins-so : (P : Type 0) (at : Beginning) → ((e : Edition) (s : Start) → Q e s → P) → BeginsAt at Q → P
-  begins-so P (beginning.Reset game edition) follows here = follows edition (Reset game.items) here
-  begins-so P (beginning.Saved file) follows here = follows here.edition (Saved file.items) here.here
+  pub refused-begun : (refusal : Refusal) → BeginsAt at (λ e s. RefusedBy (Here e s) refusal) → RefusedBy (bind (StartComes start) (λ s. Here s.edition s.start)) refusal
+  refused-begun refusal x = refused-behind (StartComes start) (λ s. Here s.edition s.start) x.value (is x.value x.gives) refusal x.here
 
--- ---- the bytes with which a run begins
+-- with the game of its code
+abbrev game_start : Edition → List ℕ → Judged RunStart
+game_start edition game = only (record { edition = edition; start = Reset game })
 
-module _ (Here : Edition → Start → Outcome → Type 0) where
-  -- what comes of them comes of the run
-  pub begun-comes : (start : asked.Start (List ℕ)) (at : Beginning) → IsBegin start at → IsWhole at → (o : Outcome) → BeginsAt at (λ e s. Here e s o)
-      → Begins start Here o
-  begun-comes (asking.Game code edition) (beginning.Reset game e) is whole o here =
-      game-comes edition code (λ game. Here edition (Reset game)) game.items is.1 (rw is.0 at whole) o (rw is.0 at here)
-  begun-comes (asking.Game code edition) (beginning.Saved file) is whole o here = absurd is
-  begun-comes (asking.State file) (beginning.Reset game e) is whole o here = absurd is
-  begun-comes (asking.State file) (beginning.Saved bytes) is whole o here = subst (λ file. Accepts file (λ e. Here e (Saved file) o)) is here
-  begun-comes (asking.Demo number) (beginning.Reset game e) is whole o here = rw (is.0, is.1) at here
-  begun-comes (asking.Demo number) (beginning.Saved file) is whole o here = absurd is
+pub game-begins : {Z : Type 0} (edition : Edition) (code : Code (List ℕ)) (game : Vec ℕ Z) → GameComes edition code (Given game.items)
+    → (s : RunStart) → s ≡ record { edition = edition; start = Reset game.items } → StartComes (asking.Game code edition) (Given s)
+game-begins edition code game comes s is = record { value = game.items; gives = comes; here = is }
 
-  -- there are none
-  pub refused-beginning : (start : asked.Start (List ℕ)) (refusal : Refusal) → IsNoBeginning start refusal → RefusedBy (Begins start Here) refusal
-  refused-beginning (asking.Game code edition) refusal answer = refused-game edition code (λ game. Here edition (Reset game)) refusal answer
-  refused-beginning (asking.State file) NoMemory answer = tt
-  refused-beginning (asking.State file) _ answer = absurd answer
-  refused-beginning (asking.Demo number) NoMemory answer = tt
-  refused-beginning (asking.Demo number) _ answer = absurd answer
+pub refused-game : (edition : Edition) (code : Code (List ℕ)) (refusal : Refusal) → RefusedBy (GameComes edition code) refusal
+    → RefusedBy (StartComes (asking.Game code edition)) refusal
+refused-game edition code = refused-first (GameComes edition code) (game_start edition)
 
 -- what is known of its code, or that there is none
 pub game-marks : (edition : Edition) (code : Code (List ℕ)) (r : Result Marks Refusal) → MarksAnswer Chip8Words code r → MarksAtStart (asking.Game code edition) r
 game-marks edition code (Ok marks) answer = answer
-game-marks edition code (Err refusal) answer = unmarked-game edition code refusal answer
-
--- a refusal at the run's edition and start is one of the run
-module _ (at : Beginning) (Here : Edition → Start → Outcome → Type 0) where
-  none-begins : BeginsAt at (λ e s. ⊥) → ⊥
-  none-begins = begins-so (λ e s. ⊥) ⊥ at (λ e s no. no)
-
-  pub refused-begins : (refusal : Refusal) → BeginsAt at (λ e s. RefusedBy (Here e s) refusal) → RefusedBy (λ o. BeginsAt at (λ e s. Here e s o)) refusal
-  refused-begins Usage at = none-begins at
-  refused-begins (Unread name) at = none-begins at
-  refused-begins (TooLarge kind) at = none-begins at
-  refused-begins (Script line cause) at = at
-  refused-begins (Command line cause) at = at
-  refused-begins (Source line cause) at = at
-  refused-begins (Misfit misfit) at = at
-  refused-begins (State fault) at = none-begins at
-  refused-begins (Rom fault) at = at
-  refused-begins (Certificate line cause) at = at
-  refused-begins (Proof line cause) at = at
-  refused-begins (NoCertificate obstacle) at = at
-  refused-begins (NoTiming why) at = at
-  refused-begins NoMemory at = tt
+game-marks edition code (Err refusal) answer = refused-game edition code refusal (unassembled-game edition code refusal answer)
 
 -- ---- its script, and what is shown of it
 
-module _ (e : Edition) (s : Start) (keys : Option (List ℕ)) where
-  -- its script isn't read
-  pub refused-keys : (refusal : Refusal) → KeysAnswer keys (Err refusal) → BeginAnswers e s keys (Err refusal)
-  refused-keys (Script line cause) answer = answer
-  refused-keys NoMemory answer = tt
-  refused-keys _ answer = absurd answer
+module _ (e : Edition) (s : Start) (keys : Option (List ℕ)) (known : Known) (limit : ℕ) where
+  -- what is shown of it isn't ready
+  pub refused-show : (asked : Show (List ℕ)) (refusal : Refusal) → RefusedBy (CommandsIn known limit asked) refusal → RefusedBy (ShowComes known e s keys limit asked) refusal
+  refused-show (show.Commands text echo) refusal by =
+      refused-first (CommandsCome Chip8 known.names echo limit text) (λ commands. RunTo e keys (λ script. debugged known.labels commands e s script limit)) refusal by
+  refused-show asked refusal by = by-each (λ (commands : List Spoken). commands ≡ []) (ShowComes known e s keys limit asked) (cause_of refusal) by
 
-  -- it is
-  module _ (script : List KeyEvent) (reads : script_in keys ≡ Ok script) where
-    pub begin-answers : (r : Result VipState Refusal) → StartAnswers e s script r → BeginAnswers e s keys r
-    begin-answers (Ok v) answer = record { script = script; reads = reads; here = answer }
-    begin-answers (Err (Rom fault)) answer = record { script = script; reads = reads; here = answer }
-    begin-answers (Err NoMemory) answer = tt
-    begin-answers (Err _) answer = absurd answer
+  -- it is ready, so it comes to what it makes of its script
+  module _ (ready : ReadyShow) where
+    abbrev Comes : Judged Output
+    Comes = RunTo e keys (λ script. shown_as ready (begun e s script) limit)
 
-  module _ (known : Known) (limit : ℕ) where
-    -- what is shown of it isn't ready
-    pub refused-show : (asked : Show (List ℕ)) (refusal : Refusal) → ShowReady known limit asked (Err refusal) → RefusedBy (ShowComes known e s keys limit asked) refusal
-    refused-show (show.Trace with_time with_words with_screen) (Command line cause) answer = absurd answer
-    refused-show show.Pictures (Command line cause) answer = absurd answer
-    refused-show (show.Commands text echo) (Command line cause) answer = rw answer refl
-    refused-show show.State (Command line cause) answer = absurd answer
-    refused-show show.Profile (Command line cause) answer = absurd answer
-    refused-show (show.Summary number) (Command line cause) answer = absurd answer
-    refused-show asked NoMemory answer = tt
-    refused-show asked _ answer = absurd answer
+    comes-as : (asked : Show (List ℕ)) → IsShow known limit asked ready → (o : Outcome) → Comes o → ShowComes known e s keys limit asked o
+    comes-as (show.Trace with_time with_words with_screen) is o come = rw is at come
+    comes-as show.Pictures is o come = rw is at come
+    comes-as (show.Commands text echo) is o come =
+        behind (CommandsCome Chip8 known.names echo limit text) (λ commands. RunTo e keys (λ script. debugged known.labels commands e s script limit)) is.0 is.2 o
+        (rw (is.4, is.3) at come)
+    comes-as show.State is o come = rw is at come
+    comes-as show.Profile is o come = rw is.1 at come
+    comes-as (show.Summary number) is o come = rw is at come
 
-    -- it is ready, so it comes to what it makes of its script
-    module _ (ready : ReadyShow) where
-      abbrev Comes : Outcome → Type 0
-      Comes = RunTo e keys (λ script. shown_as ready (begun e s script) limit)
+    pub run-comes : (asked : Show (List ℕ)) → IsShow known limit asked ready → (v : VipState) → BeginComes e s keys (Given v)
+        → ShowComes known e s keys limit asked (shown_as ready v limit)
+    run-comes asked is v begins =
+        comes-as asked is _
+        (subst (λ w. Comes (shown_as ready w limit)) (sym begins.here.here.is)
+        (behind (ScriptComes keys) (λ script. bind (RomComes e) (λ _. Ends (shown_as ready (begun e s script) limit))) begins.value begins.gives _
+        (behind (RomComes e) (λ _. Ends (shown_as ready (begun e s begins.value) limit)) tt begins.here.gives _ refl)))
 
-      comes-as : (asked : Show (List ℕ)) → IsShow known limit asked ready → (o : Outcome) → Comes o → ShowComes known e s keys limit asked o
-      comes-as (show.Trace with_time with_words with_screen) is o come = rw is at come
-      comes-as show.Pictures is o come = rw is at come
-      comes-as (show.Commands text echo) is o come = rw is.2 (rw (is.4, is.3) at come)
-      comes-as show.State is o come = rw is at come
-      comes-as show.Profile is o come = rw is.1 at come
-      comes-as (show.Summary number) is o come = rw is at come
-
-      pub run-comes : (asked : Show (List ℕ)) → IsShow known limit asked ready → (v : VipState) → BeginAnswers e s keys (Ok v)
-          → ShowComes known e s keys limit asked (shown_as ready v limit)
-      run-comes asked is v begins =
-          comes-as asked is _ (subst (λ w. Comes (shown_as ready w limit)) (sym begins.here.is) (Runs begins.script begins.reads begins.here.rom))
-
-      pub refused-begin : (asked : Show (List ℕ)) → IsShow known limit asked ready → (refusal : Refusal) → BeginAnswers e s keys (Err refusal)
-          → RefusedBy (ShowComes known e s keys limit asked) refusal
-      refused-begin asked is (Script line cause) answer = comes-as asked is _ (FaultyScript line cause answer)
-      refused-begin asked is (Rom fault) answer = comes-as asked is _ (FaultyRom answer.script fault answer.reads answer.here.0 answer.here.1)
-      refused-begin asked is NoMemory answer = tt
-      refused-begin asked is _ answer = absurd answer
-
--- the ROM of an edition is refused
-pub rom-refused : (e d : Edition) (s : Start) (script : List KeyEvent) → e ≡ d → (refusal : Refusal) → RomAnswers e (Err refusal)
-    → StartAnswers d s script (Err refusal)
-rom-refused e d s script is refusal answer = at_rom refusal (subst (λ e. RomAnswers e (Err refusal)) is answer)
-  where
-    at_rom : (refusal : Refusal) → RomAnswers d (Err refusal) → StartAnswers d s script (Err refusal)
-    at_rom (Rom fault) answer = answer
-    at_rom NoMemory answer = tt
-    at_rom _ answer = absurd answer
+    pub refused-begin : (asked : Show (List ℕ)) → IsShow known limit asked ready → (refusal : Refusal) → RefusedBy (BeginComes e s keys) refusal
+        → RefusedBy (ShowComes known e s keys limit asked) refusal
+    refused-begin asked is refusal by =
+        refused-so Comes (ShowComes known e s keys limit asked) (comes-as asked is) refusal
+        (by-tail (ScriptComes keys) (Started e s) (λ script. bind (RomComes e) (λ _. Ends (shown_as ready (begun e s script) limit)))
+        (λ script. by-tail (RomComes e) (λ _. each (IsStarted e s script)) (λ _. Ends (shown_as ready (begun e s script) limit))
+        (λ _. by-each (IsStarted e s script) (Ends (shown_as ready (begun e s script) limit))))
+        (cause_of refusal) by)
 
 -- ---- what the debugger answers of a machine that begins
 
@@ -295,8 +249,8 @@ module _ (labels : List (ℕ × List ℕ)) (limit : ℕ) (commands : List Spoken
 
 -- ---- what is opened
 
-module _ (HasOutcome : Outcome → Type 0) where
-  pub text-answers : (r : Result (Vec ℕ Global) Refusal) → TextAnswers HasOutcome r → PrepareAnswers HasOutcome (texted r)
+module _ (J : Judged Output) where
+  pub text-answers : (r : Result (Vec ℕ Global) Refusal) → TextAnswers J r → PrepareAnswers J (texted r)
   text-answers (Ok text) answers = (tt, answers)
   text-answers (Err refusal) answers = answers
 
@@ -304,11 +258,6 @@ pub checked-answers : (isa : Isa) (name source : List ℕ) (r : Result CheckText
     → PrepareAnswers (CheckComes isa name source) (checked r)
 checked-answers isa name source (Ok told) answers = (tt, answers)
 checked-answers isa name source (Err refusal) answers = answers
-
--- what is ready as a case of something is ready as that
-pub ready-so : (P Q : Outcome → Type 0) → ((o : Outcome) → P o → Q o) → (r : Result Prepared Refusal) → PrepareAnswers P r → PrepareAnswers Q r
-ready-so P Q so (Ok p) answers = (answers.0, so _ answers.1)
-ready-so P Q so (Err refusal) answers = refused-so P Q so refusal answers
 
 -- with the files read, as many cycles and moves are asked for as before, and the same address
 module _ {A B : Type 0} (f : A → B) where
@@ -353,20 +302,12 @@ module _ (asked : Asked) (old new : FilesMeaning) where
 
   -- all were read
   module _ (request : Loaded) (loaded : IsLoaded old new asked request) where
-    refused-loaded : (refusal : Refusal) → RefusedBy (HasOutcome request) refusal → OpenAnswers asked old new (Err refusal)
-    refused-loaded (Script line cause) answer = record { request = request; loaded = loaded; here = answer }
-    refused-loaded (Command line cause) answer = record { request = request; loaded = loaded; here = answer }
-    refused-loaded (Source line cause) answer = record { request = request; loaded = loaded; here = answer }
-    refused-loaded (Misfit misfit) answer = record { request = request; loaded = loaded; here = answer }
-    refused-loaded (Rom fault) answer = record { request = request; loaded = loaded; here = answer }
-    refused-loaded (Certificate line cause) answer = record { request = request; loaded = loaded; here = answer }
-    refused-loaded (Proof line cause) answer = record { request = request; loaded = loaded; here = answer }
-    refused-loaded (NoCertificate obstacle) answer = record { request = request; loaded = loaded; here = answer }
-    refused-loaded (NoTiming why) answer = record { request = request; loaded = loaded; here = answer }
-    refused-loaded NoMemory answer =
-        reads-all old new (needed asked) (files_of (needed request)) loaded.loads.read loaded.loads.reads
-    refused-loaded _ answer = absurd answer
+    not-opened : (refusal : Refusal) (c : Cause) → By (HasOutcome request) c → NotOpened asked old new refusal c
+    not-opened refusal Elsewhere by = absurd by
+    not-opened refusal Memory by = reads-all old new (needed asked) (files_of (needed request)) loaded.loads.read loaded.loads.reads
+    not-opened refusal (Fault status report) by = record { request = request; loaded = loaded; here = by }
+    not-opened refusal (Nothing report) by = record { request = request; loaded = loaded; here = by }
 
     pub open-answers : (r : Result Prepared Refusal) → PrepareAnswers (HasOutcome request) r → OpenAnswers asked old new r
     open-answers (Ok p) answers = (answers.0, record { request = request; loaded = loaded; here = answers.1 })
-    open-answers (Err refusal) answers = refused-loaded refusal answers
+    open-answers (Err refusal) answers = not-opened refusal (cause_of refusal) answers

@@ -10,16 +10,12 @@ use Rattle.chip8_lang.specs.Events.{Event, is_stop}
 use Rattle.asm_core.specs.Sources.{source_lines}
 use Rattle.chip8_source.specs.Compared.{Compares}
 use Rattle.chip8_source.specs.declared.fault.ImageFault.{ImageFault}
-use Rattle.chip8_source.specs.declared.fault.ImageFault.TheVariants.{NoMemory}
 use Rattle.vip_link.specs.Checked.{ComparesLink}
 use Rattle.vip_link.specs.Laws.{after}
 use Rattle.vip_link.specs.Pair.{Pair}
 use Rattle.vip_link.specs.Schedules.{schedule_by}
-use Rattle.vip_words.specs.DebugGrammar.{commands_of}
 use Rattle.vip_words.specs.Spoken.{Spoken}
 use Rattle.vip_words.specs.declared.debug_commands.Speaks.TheVariants.{Chip8}
-use Rattle.vip_words.specs.declared.debug_commands.CommandFault.{CommandFault}
-use Rattle.vip_words.specs.declared.debug_commands.CommandFault.TheVariants as command
 use Rattle.vip_words.specs.declared.request.RunRequest.{RunRequest}
 use Rattle.vip_words.specs.declared.request.Request.TheVariants as request
 use Rattle.vip_words.specs.declared.request.Show.{Show}
@@ -27,8 +23,6 @@ use Rattle.vip_words.specs.declared.request.Show.TheVariants as show
 use Rattle.vip_words.specs.declared.request.Start as asked
 use Rattle.vip_words.specs.declared.request.Start.TheVariants as beginning
 use Rattle.vip_debug.specs.Answers.{at_start, place_after, stop_by, written}
-use Rattle.vip_keypad.specs.declared.script.ScriptCause.{ScriptCause}
-use Rattle.vip_keypad.specs.declared.script.ScriptFault.TheVariants.{Fault}
 use Rattle.chip8_image.specs.Interpreters.{interpreter_of}
 use Rattle.vip_relation.specs.Follows.{last_dispatch}
 use Rattle.vip_relation.specs.State.{Start, VipState, begun, events_from, first_events, interpreter, machine_of, state_after}
@@ -47,17 +41,19 @@ use Rattle.vip_link.specs.Roms.{receiver_text, sender_text}
 use Rattle.vip_words.specs.declared.request.BuiltIn.{BuiltIn}
 use Rattle.vip_words.specs.declared.request.BuiltIn.TheVariants.{Interpreter, Receiver, Sender}
 use Rattle.vip_tools.specs.Files.{Loaded}
-use Rattle.vip_tools.specs.Refusal.{image_status}
 use Rattle.vip_tools.specs.Status.{end_status}
-use Rattle.vip_tools.specs.Report.{bad_command, bad_script, image_report, end_report, no_dispatch, linked_report}
-use Rattle.vip_tools.specs.declared.status.Status.TheVariants.{BadCommand, BadScript, NoDispatch, Done}
+use Rattle.vip_tools.specs.Report.{end_report, no_dispatch, linked_report}
+use Rattle.vip_tools.specs.declared.status.Status.TheVariants.{NoDispatch, Done}
 use Rattle.vip_tools.specs.Certificates.{CertifyComes, CyclesComes, SafeComes, TimingComes}
 use Rattle.asm_lex.specs.declared.shape.Isa.TheVariants.{Chip8 as Chip8Words}
-use Rattle.vip_tools.specs.Code.{GameComes, Known, OfGame, known_of, nothing_known}
+use Rattle.vip_tools.specs.Code.{GameComes, Known, known_of, nothing_known}
 use Rattle.vip_tools.specs.Demo.{demo_game}
 use Rattle.vip_tools.specs.Help.{HelpComes, VersionComes}
-use Rattle.vip_tools.specs.Outcome.{Outcome, AsmComes, BoundsComes, CheckComes, DisComes, ListComes, Writes, rom_text, script_in}
-use Rattle.vip_tools.specs.Outcome.Outcome.{Refused, Shown}
+use Rattle.vip_tools.specs.Judged.{Judged, Of, bind, each, judged, only}
+use Rattle.vip_tools.specs.Judged.Verdict.{Refused}
+use Rattle.vip_tools.specs.Opening.{CommandsCome, ScriptComes, rom_refusal}
+use Rattle.vip_tools.specs.Outcome.{BoundsComes, Ends, Outcome, Output, Shown, Writes, rom_text}
+use Rattle.vip_tools.specs.Sources.{AsmComes, CheckComes, DisComes, ListComes}
 use Rattle.vip_verbs.specs.Programs.{ProgramRunComes}
 
 -- ---- a run
@@ -81,42 +77,38 @@ run_ending e s script limit = ending_of e (events_in e s script limit)
 abbrev pub RomIs : Edition → Result (Unit {0}) ImageFault → Type 0
 RomIs e answer = Compares (source_lines (rom_text e)) (interpreter_of e).rom answer
 
--- it isn't what its source gives
-abbrev pub IsFault : ImageFault → Type 0
-IsFault NoMemory = ⊥
-IsFault _ = Unit {0}
+abbrev pub RomComes : Edition → Judged (Unit {0})
+RomComes e = judged (λ done. RomIs e (Ok done)) (λ fault. RomIs e (Err fault)) rom_refusal
 
--- the file is accepted, and of its edition this holds
-pub record Accepts (file : List ℕ) (Here : Edition → Type 0) : Type 0 where
+-- where a run begins
+pub record RunStart : Type 0 where
   pub edition : Edition
-  pub accepted : IsAccepted edition file
-  pub here : Here edition
+  pub start : Start
 
--- What a run comes to, by what comes of its edition and start: with a game, in the edition that is asked for, and what comes of its code; from an accepted
--- file of a saved state, in its own; with the demonstration game of a number, in the usual one. A file with a fault was refused when it was read.
-abbrev pub Begins : asked.Start (List ℕ) → (Edition → Start → Outcome → Type 0) → Outcome → Type 0
-Begins (beginning.Game code edition) Here o = GameComes edition code (λ game. Here edition (Reset game)) o
-Begins (beginning.State file) Here o = Accepts file (λ e. Here e (Saved file) o)
-Begins (beginning.Demo number) Here o = Here Usual (Reset (demo_game number)) o
+-- at an accepted file of a saved state, in its own edition
+pub record IsSavedIn (file : List ℕ) (s : RunStart) : Type 0 where
+  pub accepted : IsAccepted s.edition file
+  pub saved : s.start ≡ Saved file
+
+-- With a game, in the edition that is asked for, by what comes of its code; from an accepted file of a saved state; with the demonstration game of a number,
+-- in the usual edition. A file with a fault was refused when it was read.
+abbrev pub StartComes : asked.Start (List ℕ) → Judged RunStart
+StartComes (beginning.Game code edition) = bind (GameComes edition code) (λ game. only (record { edition = edition; start = Reset game }))
+StartComes (beginning.State file) = each (IsSavedIn file)
+StartComes (beginning.Demo number) = only (record { edition = Usual; start = Reset (demo_game number) })
 
 -- what is known of the code with which a run begins
 abbrev pub known_in : asked.Start (List ℕ) → Known
 known_in (beginning.Game code edition) = known_of Chip8Words code
 known_in _ = nothing_known
 
--- of the edition and the start of a run this holds; that of a source is the run of the game that it gives
+-- of the edition and the start of a run this holds
 abbrev pub OfRun : asked.Start (List ℕ) → (Edition → Start → Type 0) → Type 0
-OfRun (beginning.Game code edition) Here = OfGame code (λ game. Here edition (Reset game))
-OfRun (beginning.State file) Here = Accepts file (λ e. Here e (Saved file))
-OfRun (beginning.Demo number) Here = Here Usual (Reset (demo_game number))
+OfRun start Here = Of (StartComes start) (λ s. Here s.edition s.start)
 
 -- A run comes to the first fault of its script, to a ROM that isn't what its source gives, or to what it makes of its script.
-pub data RunTo (e : Edition) (keys : Option (List ℕ)) (outcome : List KeyEvent → Outcome) : Outcome → Type 0 where
-  FaultyScript : (line : ℕ) (cause : ScriptCause) → script_in keys ≡ Err (Fault line cause)
-      → RunTo e keys outcome (Refused BadScript (bad_script line cause))
-  FaultyRom : (script : List KeyEvent) (fault : ImageFault) → script_in keys ≡ Ok script → IsFault fault → RomIs e (Err fault)
-      → RunTo e keys outcome (Refused (image_status fault) (image_report fault))
-  Runs : (script : List KeyEvent) → script_in keys ≡ Ok script → RomIs e (Ok tt) → RunTo e keys outcome (outcome script)
+abbrev pub RunTo : Edition → Option (List ℕ) → (List KeyEvent → Outcome) → Judged Output
+RunTo e keys outcome = bind (ScriptComes keys) (λ script. bind (RomComes e) (λ _. Ends (outcome script)))
 
 -- ---- what is shown of a run
 
@@ -179,24 +171,20 @@ debugged_to labels limit last commands v = ran limit (written labels v last comm
 abbrev pub debugged : List (ℕ × List ℕ) → List Spoken → Edition → Start → List KeyEvent → ℕ → Outcome
 debugged labels commands e s script limit = debugged_to labels limit (limit_from s limit) commands (begun e s script)
 
--- A run under the debugger comes to the first fault of its commands, or else, as other runs do, to what their answers come to.
-abbrev pub DebugComes : List (ℕ × List ℕ) → Edition → Start → Option (List ℕ) → ℕ → Result (List Spoken) CommandFault → Outcome → Type 0
-DebugComes labels e s keys limit (Ok commands) = RunTo e keys (λ script. debugged labels commands e s script limit)
-DebugComes labels e s keys limit (Err (command.Fault line cause)) = λ o. o ≡ Refused BadCommand (bad_command line cause)
-DebugComes labels e s keys limit (Err command.NoMemory) = λ o. ⊥
-
--- a run from a start, of whose code this is known, under a script file up to a limit that is shown so
-abbrev pub ShowComes : Known → Edition → Start → Option (List ℕ) → ℕ → Show (List ℕ) → Outcome → Type 0
+-- A run from a start, of whose code this is known, under a script file up to a limit that is shown so. Under the debugger it comes to the first fault of its
+-- commands, or else, as other runs do, to what their answers come to.
+abbrev pub ShowComes : Known → Edition → Start → Option (List ℕ) → ℕ → Show (List ℕ) → Judged Output
 ShowComes known e s keys limit (show.Trace with_time with_words with_screen) =
     RunTo e keys (λ script. traced (columns_of with_time with_words) with_screen e s script limit)
 ShowComes known e s keys limit show.Pictures = RunTo e keys (λ script. pictured e s script limit)
-ShowComes known e s keys limit (show.Commands text echo) = DebugComes known.labels e s keys limit (commands_of Chip8 known.names echo limit text)
+ShowComes known e s keys limit (show.Commands text echo) =
+    bind (CommandsCome Chip8 known.names echo limit text) (λ commands. RunTo e keys (λ script. debugged known.labels commands e s script limit))
 ShowComes known e s keys limit show.State = RunTo e keys (λ script. saved e limit (events_in e s script limit))
 ShowComes known e s keys limit show.Profile = RunTo e keys (λ script. profiled e s script limit)
 ShowComes known e s keys limit (show.Summary number) = RunTo e keys (λ script. counted number e s script limit)
 
-abbrev pub RunComes : RunRequest (List ℕ) → Outcome → Type 0
-RunComes run = Begins run.start (λ e s. ShowComes (known_in run.start) e s run.keys run.limit run.show)
+abbrev pub RunComes : RunRequest (List ℕ) → Judged Output
+RunComes run = bind (StartComes run.start) (λ s. ShowComes (known_in run.start) s.edition s.start run.keys run.limit run.show)
 
 -- ---- two boards that are joined
 
@@ -204,13 +192,16 @@ RunComes run = Begins run.start (λ e s. ShowComes (known_in run.start) e s run.
 abbrev pub linked_after : ℕ → ℕ → List ℕ → Pair
 linked_after number moves message = after (schedule_by number moves) message
 
--- They come to the first of both ROMs that isn't what its source gives, or to the bytes that B received, and the report says how many were sent and
--- received.
-pub data LinkComes (message : List ℕ) (moves number : ℕ) : Outcome → Type 0 where
-  FaultyRoms : (fault : ImageFault) → IsFault fault → ComparesLink (Err fault)
-      → LinkComes message moves number (Refused (image_status fault) (image_report fault))
-  Links : ComparesLink (Ok tt) → (s : Pair) → s ≡ linked_after number moves message
-      → LinkComes message moves number (Shown (s.received ∷ []) Done (linked_report (length s.sent) (length s.received)))
+-- the bytes that B received, and the report says how many were sent and received
+abbrev pub linked : Pair → Outcome
+linked s = Shown (s.received ∷ []) Done (linked_report (length s.sent) (length s.received))
+
+-- the first of both ROMs that isn't what its source gives
+abbrev pub LinkRomsCome : Judged (Unit {0})
+LinkRomsCome = judged (λ done. ComparesLink (Ok done)) (λ fault. ComparesLink (Err fault)) rom_refusal
+
+abbrev pub LinkComes : List ℕ → ℕ → ℕ → Judged Output
+LinkComes message moves number = bind LinkRomsCome (λ _. Ends (linked (linked_after number moves message)))
 
 -- ---- a source that the program has in it
 
@@ -219,13 +210,13 @@ built_in_text (Interpreter e) = rom_text e
 built_in_text Sender = sender_text
 built_in_text Receiver = receiver_text
 
-abbrev pub BuiltInComes : BuiltIn → Outcome → Type 0
+abbrev pub BuiltInComes : BuiltIn → Judged Output
 BuiltInComes text = Writes (built_in_text text)
 
 -- ---- a request
 
 -- what a request comes to whose files were read
-abbrev pub HasOutcome : Loaded → Outcome → Type 0
+abbrev pub HasOutcome : Loaded → Judged Output
 HasOutcome (request.Run run) = RunComes run
 HasOutcome (request.Program run) = ProgramRunComes run
 HasOutcome (request.Link message moves number) = LinkComes message moves number
@@ -237,7 +228,7 @@ HasOutcome (request.Source text) = BuiltInComes text
 HasOutcome request.Bounds = BoundsComes
 HasOutcome (request.Cycles source certificate exits) = CyclesComes source certificate exits
 HasOutcome (request.Timing source entry p k) = TimingComes source entry p k
-HasOutcome (request.Safe code certificate edition) = GameComes edition code (λ game. SafeComes edition game certificate)
-HasOutcome (request.Certify code edition) = GameComes edition code (CertifyComes edition)
+HasOutcome (request.Safe code certificate edition) = bind (GameComes edition code) (λ game. SafeComes edition game certificate)
+HasOutcome (request.Certify code edition) = bind (GameComes edition code) (CertifyComes edition)
 HasOutcome (request.Help verb) = HelpComes verb
 HasOutcome request.Version = VersionComes

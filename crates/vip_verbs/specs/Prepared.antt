@@ -10,7 +10,6 @@ use Rattle.vip_outside.specs.Sink.{SinkMeaning}
 use Rattle.vip_outside.specs.declared.sink.Failed.{Failed}
 use Rattle.vip_link.specs.Laws.{most_bytes}
 use Rattle.vip_link.specs.Links.{Linking, started as joined}
-use Rattle.vip_link.specs.Pair.{Pair}
 use Rattle.vip_debug.specs.declared.run.DebugEnd.{DebugEnd}
 use Rattle.vip_debug.specs.declared.run.DebugEnd.TheVariants as debugger
 use Rattle.vip_relation.specs.Meets.{HasStopped}
@@ -27,16 +26,15 @@ use Rattle.vip_tools.specs.declared.ended.Ended.TheVariants.{Ran}
 use Rattle.vip_tools.specs.declared.fault.PerformFault.{PerformFault}
 use Rattle.vip_tools.specs.declared.fault.PerformFault.TheVariants.{NoDispatch, WriteFault}
 use Rattle.vip_tools.specs.declared.refusal.Refusal.{Refusal}
-use Rattle.vip_tools.specs.declared.refusal.Refusal.TheVariants.{Usage, Unread, TooLarge, State, NoMemory}
-use Rattle.vip_tools.specs.declared.status.Status.{Status}
 use Rattle.vip_tools.specs.declared.status.Status.TheVariants.{Done, NoDispatch as undispatched}
-use Rattle.vip_tools.specs.Report.{ended_report, linked_report, no_dispatch}
+use Rattle.vip_tools.specs.Report.{ended_report, no_dispatch}
 use Rattle.vip_tools.specs.Status.{checked_status, ended_status}
-use Rattle.vip_tools.specs.Files.{FilesRefused, IsLoaded, Loaded, needed}
-use Rattle.vip_tools.specs.Outcome.{Outcome}
-use Rattle.vip_tools.specs.Outcome.Outcome.{Refused, Shown}
-use Rattle.vip_tools.specs.Work.{RefusedBy}
-use Rattle.vip_verbs.specs.Outcome.{HasOutcome, debugged_to, limit_from, linked_after, ran, saved}
+use Rattle.vip_tools.specs.Files.{FilesRefused, IsLoaded, Loaded, ReadsSome, needed}
+use Rattle.vip_tools.specs.Judged.{By, Cause, Judged, RefusedBy, cause_of}
+use Rattle.vip_tools.specs.Judged.Cause.{Elsewhere, Memory}
+use Rattle.vip_tools.specs.Judged.Verdict.{Given, Refused}
+use Rattle.vip_tools.specs.Outcome.{Outcome, Output, Shown}
+use Rattle.vip_verbs.specs.Outcome.{HasOutcome, debugged_to, limit_from, linked, linked_after, ran, saved}
 use Rattle.vip_verbs.specs.Programs.{IsBegun, program_debugged, program_pictured, program_traced}
 use Rattle.vip_verbs.specs.declared.prepared.Prepared.{Prepared}
 use Rattle.vip_verbs.specs.declared.prepared.Prepared.TheVariants.{Run, Program, Link, Text, Checked}
@@ -65,10 +63,6 @@ abbrev pub program_shown_as : ReadyProgramShow → Seen → ℕ → Outcome
 program_shown_as (program.Trace labels) board limit = program_traced labels limit board
 program_shown_as program.Pictures board limit = program_pictured limit board
 program_shown_as (program.Commands commands labels) board limit = program_debugged labels commands limit board
-
--- two boards that are joined, by where they come to
-abbrev pub linked : Pair → Outcome
-linked s = Shown (s.received ∷ []) Done (linked_report (length s.sent) (length s.received))
 
 -- what a verb that is ready comes to
 abbrev pub outcome_of : Prepared → Outcome
@@ -102,9 +96,9 @@ IsReady (Checked told) = Unit {0}
 -- ---- the answers
 
 -- what is ready comes to what the request does, or the request comes to a refusal
-abbrev pub PrepareAnswers : (Outcome → Type 0) → Result Prepared Refusal → Type 0
-PrepareAnswers HasOutcome (Ok p) = IsReady p × HasOutcome (outcome_of p)
-PrepareAnswers HasOutcome (Err refusal) = RefusedBy HasOutcome refusal
+abbrev pub PrepareAnswers : Judged Output → Result Prepared Refusal → Type 0
+PrepareAnswers J (Ok p) = IsReady p × J (outcome_of p)
+PrepareAnswers J (Err refusal) = RefusedBy J refusal
 
 -- a text is ready
 abbrev pub texted : Result (Vec ℕ Global) Refusal → Result Prepared Refusal
@@ -122,21 +116,21 @@ pub record OfLoaded (asked : Asked) (old new : FilesMeaning) (Here : Loaded → 
   pub loaded : IsLoaded old new asked request
   pub here : Here request
 
--- what opening answers
+-- what opening answers: a file is refused, or of what was loaded the contents are
+abbrev pub NotOpened : Asked → FilesMeaning → FilesMeaning → Refusal → Cause → Type 0
+NotOpened asked old new refusal Elsewhere = FilesRefused old new (needed asked) refusal
+NotOpened asked old new refusal Memory = ReadsSome (needed asked) old new
+NotOpened asked old new refusal cause = OfLoaded asked old new (λ request. By (HasOutcome request) cause)
+
 abbrev pub OpenAnswers : Asked → FilesMeaning → FilesMeaning → Result Prepared Refusal → Type 0
 OpenAnswers asked old new (Ok p) = IsReady p × OfLoaded asked old new (λ request. HasOutcome request (outcome_of p))
-OpenAnswers asked old new (Err Usage) = ⊥
-OpenAnswers asked old new (Err (Unread name)) = FilesRefused old new (needed asked) (Unread name)
-OpenAnswers asked old new (Err (TooLarge kind)) = FilesRefused old new (needed asked) (TooLarge kind)
-OpenAnswers asked old new (Err (State fault)) = FilesRefused old new (needed asked) (State fault)
-OpenAnswers asked old new (Err NoMemory) = FilesRefused old new (needed asked) NoMemory
-OpenAnswers asked old new (Err refusal) = OfLoaded asked old new (λ request. RefusedBy (HasOutcome request) refusal)
+OpenAnswers asked old new (Err refusal) = NotOpened asked old new refusal (cause_of refusal)
 
 -- the output went out whole, and this is its end
-pub record Performs (pieces : List (List ℕ)) (status : Status) (report : List ℕ) (old new : SinkMeaning) (ended : Ended) : Type 0 where
-  pub puts : PutsAll pieces old new
-  pub status_is : status ≡ ended_status ended
-  pub report_is : report ≡ ended_report ended
+pub record Performs (output : Output) (old new : SinkMeaning) (ended : Ended) : Type 0 where
+  pub puts : PutsAll output.pieces old new
+  pub status_is : output.status ≡ ended_status ended
+  pub report_is : output.report ≡ ended_report ended
 
 -- how a run up to a limit ended, one that is saved, and one under the debugger
 abbrev pub run_ended : ℕ → Result RunEnd Failed → Result Ended PerformFault
@@ -155,7 +149,7 @@ DebugEnds limit debugger.WriteFault answer = answer ≡ Err WriteFault
 
 -- What the work of a verb answers: its output went out whole, or up to a fault; or it is refused, for want of a dispatch point, and nothing was put.
 abbrev pub PerformAnswers : Outcome → SinkMeaning → SinkMeaning → Result Ended PerformFault → Type 0
-PerformAnswers (Shown pieces status report) old new (Ok ended) = Performs pieces status report old new ended
-PerformAnswers (Shown pieces status report) old new (Err WriteFault) = FailsWithin pieces old new
+PerformAnswers (Given output) old new (Ok ended) = Performs output old new ended
+PerformAnswers (Given output) old new (Err WriteFault) = FailsWithin output.pieces old new
 PerformAnswers (Refused status report) old new (Err NoDispatch) = (status ≡ undispatched) × (report ≡ no_dispatch) × (new ≡ old)
 PerformAnswers _ old new _ = ⊥

@@ -3,15 +3,10 @@ use Rattle.std.specs.Prelude.{◌≡◌, ℕ, List, [], Option, Result, Ok, Err}
 use Rattle.machine.specs.Keys.{Event as KeyEvent}
 use Rattle.vip_board.specs.Seen.{Seen}
 use Rattle.vip_board.specs.Shown.{HasPictures}
-use Rattle.vip_words.specs.DebugGrammar.{commands_of}
 use Rattle.vip_words.specs.Spoken.{Spoken}
 use Rattle.vip_words.specs.declared.debug_commands.Speaks.TheVariants.{Machine as Processor}
-use Rattle.vip_words.specs.declared.debug_commands.CommandFault.{CommandFault}
-use Rattle.vip_words.specs.declared.debug_commands.CommandFault.TheVariants as command
 use Rattle.vip_debug.specs.Programs.{program_written, machine_with}
 use Rattle.vip_cpu.specs.declared.cpu.Phase.TheVariants.{Boundary}
-use Rattle.vip_keypad.specs.declared.script.ScriptCause.{ScriptCause}
-use Rattle.vip_keypad.specs.declared.script.ScriptFault.TheVariants.{Fault}
 use Rattle.vip_outside.specs.declared.sink.Failed.{Failed}
 use Rattle.vip_program.specs.Program.{started}
 use Rattle.vip_program.specs.Pictures.{pictured}
@@ -23,17 +18,16 @@ use Rattle.vip_program.specs.declared.trace.ProgramEnd.TheVariants as program
 use Rattle.vip_text.specs.Stops.{idle_line}
 use Rattle.asm_lex.specs.declared.shape.Isa.TheVariants.{Cdp1802}
 use Rattle.vip_tools.specs.Code.{ImageComes, Known, known_of}
-use Rattle.vip_tools.specs.Report.{bad_command, bad_script, done}
+use Rattle.vip_tools.specs.Report.{done}
 use Rattle.vip_tools.specs.declared.ended.Ended.{Ended}
 use Rattle.vip_tools.specs.declared.ended.Ended.TheVariants.{Idle, Ran}
 use Rattle.vip_tools.specs.declared.fault.PerformFault.{PerformFault}
 use Rattle.vip_tools.specs.declared.fault.PerformFault.TheVariants.{WriteFault}
-use Rattle.vip_tools.specs.declared.refusal.Refusal.{Refusal}
-use Rattle.vip_tools.specs.declared.refusal.Refusal.TheVariants.{Script, NoMemory}
-use Rattle.vip_tools.specs.declared.status.Status.TheVariants.{BadCommand, BadScript, Done}
+use Rattle.vip_tools.specs.declared.status.Status.TheVariants.{Done}
 use Rattle.vip_text.specs.declared.ending.RunEnd.TheVariants.{AtLimit}
-use Rattle.vip_tools.specs.Outcome.{Outcome, script_in}
-use Rattle.vip_tools.specs.Outcome.Outcome.{Refused, Shown}
+use Rattle.vip_tools.specs.Judged.{Judged, bind, each}
+use Rattle.vip_tools.specs.Opening.{CommandsCome, ScriptComes}
+use Rattle.vip_tools.specs.Outcome.{Ends, Outcome, Output, Shown}
 use Rattle.vip_words.specs.declared.request.Memory.{Memory as AskedMemory}
 use Rattle.vip_words.specs.declared.request.Memory.TheVariants as asked
 use Rattle.vip_words.specs.declared.request.ProgramRequest.{ProgramRequest}
@@ -55,11 +49,8 @@ abbrev pub ended_at : ℕ → Seen → ProgramEnd
 ended_at limit board = end_at (last_machine board limit)
 
 -- A program comes to the first fault of its script, or to its output and its end.
-pub data ProgramComes (memory : AskedMemory) (rom ram : List ℕ) (keys : Option (List ℕ)) (outcome : Seen → Outcome) : Outcome → Type 0 where
-  FaultyScript : (line : ℕ) (cause : ScriptCause) → script_in keys ≡ Err (Fault line cause)
-      → ProgramComes memory rom ram keys outcome (Refused BadScript (bad_script line cause))
-  Runs : (script : List KeyEvent) → script_in keys ≡ Ok script
-      → ProgramComes memory rom ram keys outcome (outcome (started (memory_in memory) rom ram script))
+abbrev pub ProgramComes : AskedMemory → List ℕ → List ℕ → Option (List ℕ) → (Seen → Outcome) → Judged Output
+ProgramComes memory rom ram keys outcome = bind (ScriptComes keys) (λ script. Ends (outcome (started (memory_in memory) rom ram script)))
 
 -- it is shown up to a limit, with its end
 abbrev pub program_ran : ℕ → List (List ℕ) → ProgramEnd → Outcome
@@ -76,20 +67,17 @@ abbrev pub program_debugged : List (ℕ × List ℕ) → List Spoken → ℕ →
 program_debugged labels commands limit board = program_ran limit (program_written labels board limit commands) (end_at (machine_with board limit commands))
 
 -- Under the debugger it comes to the first fault of the commands, or else to what their answers come to.
-abbrev pub ProgramDebugComes : List (ℕ × List ℕ) → AskedMemory → List ℕ → List ℕ → Option (List ℕ) → ℕ → Result (List Spoken) CommandFault → Outcome → Type 0
-ProgramDebugComes labels memory rom ram keys limit (Ok commands) = ProgramComes memory rom ram keys (program_debugged labels commands limit)
-ProgramDebugComes labels memory rom ram keys limit (Err (command.Fault line cause)) = λ o. o ≡ Refused BadCommand (bad_command line cause)
-ProgramDebugComes labels memory rom ram keys limit (Err command.NoMemory) = λ o. ⊥
-
-abbrev pub ProgramShowComes : Known → AskedMemory → List ℕ → List ℕ → Option (List ℕ) → ℕ → ProgramShow (List ℕ) → Outcome → Type 0
+abbrev pub ProgramShowComes : Known → AskedMemory → List ℕ → List ℕ → Option (List ℕ) → ℕ → ProgramShow (List ℕ) → Judged Output
 ProgramShowComes known memory rom ram keys limit show.Trace = ProgramComes memory rom ram keys (program_traced known.labels limit)
 ProgramShowComes known memory rom ram keys limit show.Pictures = ProgramComes memory rom ram keys (program_pictured limit)
 ProgramShowComes known memory rom ram keys limit (show.Commands text echo) =
-    ProgramDebugComes known.labels memory rom ram keys limit (commands_of Processor known.names echo limit text)
+    bind (CommandsCome Processor known.names echo limit text) (λ commands. ProgramComes memory rom ram keys (program_debugged known.labels commands limit))
 
 -- its bytes are those that its code gives
-abbrev pub ProgramRunComes : ProgramRequest (List ℕ) → Outcome → Type 0
-ProgramRunComes run = ImageComes run.memory run.code (λ rom ram. ProgramShowComes (known_of Cdp1802 run.code) run.memory rom ram run.keys run.limit run.show)
+abbrev pub ProgramRunComes : ProgramRequest (List ℕ) → Judged Output
+ProgramRunComes run =
+    bind (ImageComes run.memory run.code)
+    (λ image. ProgramShowComes (known_of Cdp1802 run.code) run.memory image.0 image.1 run.keys run.limit run.show)
 
 -- ---- what the calls answer
 
@@ -100,17 +88,12 @@ pub record IsBegun (board : Seen) : Type 0 where
   pub pictures : HasPictures board.rom [] board.machine.cycle board.pictures
 
 -- the board of a program under its script
-pub record BeginsProgram (memory : AskedMemory) (rom ram : List ℕ) (keys : Option (List ℕ)) (board : Seen) : Type 0 where
-  pub script : List KeyEvent
-  pub reads : script_in keys ≡ Ok script
+pub record BeginsProgram (memory : AskedMemory) (rom ram : List ℕ) (script : List KeyEvent) (board : Seen) : Type 0 where
   pub is : board ≡ started (memory_in memory) rom ram script
   pub pictures : HasPictures board.rom [] board.machine.cycle board.pictures
 
-abbrev pub BoardAnswers : AskedMemory → List ℕ → List ℕ → Option (List ℕ) → Result Seen Refusal → Type 0
-BoardAnswers memory rom ram keys (Ok board) = BeginsProgram memory rom ram keys board
-BoardAnswers memory rom ram keys (Err (Script line cause)) = script_in keys ≡ Err (Fault line cause)
-BoardAnswers memory rom ram keys (Err NoMemory) = Unit {0}
-BoardAnswers memory rom ram keys (Err _) = ⊥
+abbrev pub BoardComes : AskedMemory → List ℕ → List ℕ → Option (List ℕ) → Judged Seen
+BoardComes memory rom ram keys = bind (ScriptComes keys) (λ script. each (BeginsProgram memory rom ram script))
 
 -- how the run of a program ended
 abbrev pub program_ended : ℕ → Result ProgramEnd Failed → Result Ended PerformFault

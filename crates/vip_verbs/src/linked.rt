@@ -3,9 +3,9 @@
 ghost use Rattle.std.specs.Prelude.{◌≤◌, length};
 ghost use Rattle.vip_words.specs.Request.{most_moves};
 ghost use Rattle.vip_link.specs.Laws.{most_bytes};
-ghost use Rattle.vip_verbs.specs.Outcome.{LinkComes, linked_after};
-ghost use Rattle.vip_verbs.specs.Opening.{LinkRomsAnswer};
-ghost use Rattle.vip_verbs.specs.Prepared.{IsJoined, PrepareAnswers, PerformAnswers, linked};
+ghost use Rattle.vip_tools.specs.Judged.{Answers};
+ghost use Rattle.vip_verbs.specs.Outcome.{LinkComes, LinkRomsCome, linked, linked_after};
+ghost use Rattle.vip_verbs.specs.Prepared.{IsJoined, PrepareAnswers, PerformAnswers};
 
 use crate::prepared::Prepared;
 use chip8_source::ImageFault;
@@ -16,7 +16,7 @@ use vip_tools::{Ended, Kind, PerformFault, Refusal};
 
 /// The refusal of two ROMs of which one isn't what its source gives.
 fn check_roms<'a>(alloc: Global) -> Result<(), Refusal<'a>>
-    ensures { LinkRomsAnswer result }
+    ensures { Answers LinkRomsCome result }
 {
     match check_link(alloc) {
         Ok(()) => Ok(()),

@@ -8,9 +8,10 @@ ghost use Rattle.vip_words.specs.declared.request.Request.TheVariants as asked;
 ghost use Rattle.vip_tools.specs.declared.refusal.Kind.TheVariants.{State};
 ghost use Rattle.vip_tools.specs.Code.{marked};
 ghost use Rattle.vip_tools.specs.Files.{needed, script_files, show_files, start_files, AreFit, IsRight};
+ghost use Rattle.vip_tools.specs.Judged.{Answers};
 ghost use Rattle.vip_tools.specs.Opening.{keys_in};
-ghost use Rattle.vip_verbs.specs.Outcome.{Accepts, RomIs, RunComes};
-ghost use Rattle.vip_verbs.specs.Opening.{BeginAnswers, BeginningAnswers, BeginsAt, IsWhole, MarksAtStart, RomAnswers, ShowReady, StartAnswers};
+ghost use Rattle.vip_verbs.specs.Outcome.{RomComes, RomIs, RunComes};
+ghost use Rattle.vip_verbs.specs.Opening.{Accepts, BeginComes, BeginningAnswers, BeginsAt, IsWhole, MarksAtStart, ShowReady, Started};
 ghost use Rattle.vip_verbs.specs.Prepared.{PrepareAnswers};
 
 use crate::prepared::{Prepared, ReadyShow};
@@ -37,7 +38,7 @@ fn compare_rom(alloc: Global, edition: Edition) -> Result<(), ImageFault>
 
 /// The refusal of a ROM that isn't what its source gives.
 fn check_rom<'a>(alloc: Global, edition: Edition) -> Result<(), Refusal<'a>>
-    ensures { RomAnswers edition result }
+    ensures { Answers (RomComes edition) result }
 {
     match compare_rom(alloc, edition) {
         Ok(()) => Ok(()),
@@ -54,7 +55,7 @@ fn start_game<'a>(
     script: &Script,
 ) -> Result<Run, Refusal<'a>>
     requires { length game.now ≤ memory_size edition }
-    ensures { StartAnswers edition (Reset game.now) script.now result }
+    ensures { Answers (Started edition (Reset game.now) script.now) result }
 {
     check_rom(alloc, edition)?;
     match Run::start_as(alloc, edition, game, script) {
@@ -67,7 +68,7 @@ fn start_game<'a>(
 /// A run that goes on from an accepted state file under its script, with the ROM of the file's edition.
 fn go_on<'a>(alloc: Global, file: &[u8], script: &Script) -> Result<Run, Refusal<'a>>
     requires { IsRight State file.now }
-    ensures { Accepts file.now (λ e. StartAnswers e (Saved file.now) script.now result) }
+    ensures { Accepts file.now (λ e. Answers (Started e (Saved file.now) script.now) result) }
 {
     match Run::resume(alloc, file, script) {
         Ok(run) => {
@@ -124,7 +125,7 @@ fn start_marks<'a>(alloc: Global, start: &Start<Vec<u8>>) -> Result<Marks, Refus
 fn begin<'a>(alloc: Global, beginning: Beginning, keys: Option<Vec<u8>>) -> Result<Run, Refusal<'a>>
     requires beginning { IsWhole beginning }
     requires keys { AreFit (script_files (keys_in keys)) }
-    ensures { BeginsAt beginning (λ e s. BeginAnswers e s (keys_in keys) result) }
+    ensures { BeginsAt beginning (λ e s. Answers (BeginComes e s (keys_in keys)) result) }
 {
     let script = read_keys(alloc, keys)?;
     match beginning {

@@ -5,6 +5,7 @@ ghost use Rattle.vip_words.specs.Request.{asked_of, cycles_in, map_code, most_cy
 ghost use Rattle.vip_tools.specs.Certificates.{CertifyComes, SafeComes};
 ghost use Rattle.vip_tools.specs.Code.{GameComes};
 ghost use Rattle.vip_tools.specs.Files.{game_code, loaded_of, most_text, needed, AreFit, IsFit};
+ghost use Rattle.vip_tools.specs.Judged.{bind};
 ghost use Rattle.vip_tools.specs.Outcome.{Writes};
 ghost use Rattle.vip_tools.specs.Work.{TextAnswers};
 ghost use Rattle.vip_verbs.specs.Outcome.{BuiltInComes, HasOutcome};
@@ -53,7 +54,7 @@ fn safe_code<'a>(
 ) -> Result<Vec<u8>, Refusal<'a>>
     requires game { IsFit (game_code edition (map_code (λ bytes. bytes.items) code)) }
     requires certificate { length certificate.now ≤ most_text }
-    ensures { TextAnswers (GameComes edition (map_code (λ bytes. bytes.items) code) (λ game. SafeComes edition game certificate.now)) result }
+    ensures { TextAnswers (bind (GameComes edition (map_code (λ bytes. bytes.items) code)) (λ game. SafeComes edition game certificate.now)) result }
 {
     let game = game(alloc, edition, code)?;
     safe(alloc, edition, game.as_slice(), certificate)
@@ -66,7 +67,7 @@ fn certify_code<'a>(
     code: Code<Vec<u8>>,
 ) -> Result<Vec<u8>, Refusal<'a>>
     requires { IsFit (game_code edition (map_code (λ bytes. bytes.items) code)) }
-    ensures { TextAnswers (GameComes edition (map_code (λ bytes. bytes.items) code) (CertifyComes edition)) result }
+    ensures { TextAnswers (bind (GameComes edition (map_code (λ bytes. bytes.items) code)) (CertifyComes edition)) result }
 {
     let game = game(alloc, edition, code)?;
     certify(alloc, edition, game.as_slice())

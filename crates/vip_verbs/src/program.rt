@@ -5,9 +5,10 @@ ghost use Rattle.vip_words.specs.Request.{map_program, map_program_show, most_cy
 ghost use Rattle.vip_words.specs.declared.request.Request.TheVariants as asked;
 ghost use Rattle.vip_tools.specs.Code.{FitsMemories, marked};
 ghost use Rattle.vip_tools.specs.Files.{needed, program_show_files, script_files, AreFit};
+ghost use Rattle.vip_tools.specs.Judged.{Answers};
 ghost use Rattle.vip_tools.specs.Opening.{keys_in};
 ghost use Rattle.vip_verbs.specs.Opening.{ProgramShowReady};
-ghost use Rattle.vip_verbs.specs.Programs.{BoardAnswers, ProgramRunComes, memory_in, program_ended};
+ghost use Rattle.vip_verbs.specs.Programs.{BoardComes, ProgramRunComes, memory_in, program_ended};
 ghost use Rattle.vip_verbs.specs.Prepared.{IsReady, PerformAnswers, PrepareAnswers, outcome_of};
 ghost use Rattle.vip_verbs.specs.declared.prepared.Prepared.TheVariants as ready;
 
@@ -41,7 +42,7 @@ fn start_board<'a>(
 ) -> Result<Board, Refusal<'a>>
     requires image { FitsMemories image.now }
     requires keys { AreFit (script_files (keys_in keys)) }
-    ensures { BoardAnswers memory image.now.rom.items image.now.ram.items (keys_in keys) result }
+    ensures { Answers (BoardComes memory image.now.rom.items image.now.ram.items (keys_in keys)) result }
 {
     let script = read_keys(alloc, keys)?;
     let (rom, ram) = (image.rom.as_slice(), image.ram.as_slice());

@@ -4,7 +4,8 @@ use Rattle.vip_cli.proofs.process.Goals as goal
 
 pub returns-in-Ok : goal.returns-in-Ok
 returns-in-Ok g c =
-    runs _ _ _ _ _ _ c.args.args c.in-Ok.words c.as_slice.result.now c.run-status.result _ c.in-Ok.ensures c.as_slice.ensures.value c.run-status.ensures
+    runs _ _ _ _ _ _ c.args.args c.in-Ok.words c.as_slice.result.now c.vip_main-status.result _ c.in-Ok.ensures c.as_slice.ensures.value
+    (record { finished = c.vip_main-status.ensures.finished; promises = c.vip_main-status.ensures.promises })
     (c.from.ensures ∙ c.number.ensures)
 
 pub returns-in-Err : goal.returns-in-Err

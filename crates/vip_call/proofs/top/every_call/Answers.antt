@@ -1,17 +1,18 @@
 use Rattle.vip_text.specs.StateFile.{shown}
 use Rattle.vip_call.proofs.CertifiedLemmas.{proves_certified}
 use Rattle.vip_call.proofs.CheckedLemmas.{checks_sources}
-use Rattle.vip_call.proofs.GivenLemmas.{roms_given, rom_never, never_of_rom, only_checks}
+use Rattle.vip_call.proofs.Outcomes.{roms_given}
 use Rattle.vip_call.proofs.LinkedLemmas.{brings_messages}
 use Rattle.vip_call.proofs.LanguageLemmas.{speaks_chip8}
 use Rattle.vip_call.proofs.SavedLemmas.{continues_saved, saves_shown}
 use Rattle.vip_call.proofs.TranscribedLemmas.{tells_chip8, tells_timed}
-use Rattle.vip_call.proofs.TopLemmas.{refuses_words, gives_due, completes, says_finished}
+use Rattle.vip_call.proofs.TopLemmas.{completes, gives_due, never_of_rom, refuses_words, says_finished}
 use Rattle.vip_call.proofs.top.every_call.Goals as goal
 
 pub returns : goal.returns
 returns c words files files' out out' err err' opened status opens finishes =
     let says = says_finished words files files' out out' err err' opened status opens finishes in
+    let roms = roms_given c.source_gives_rom.ensures c.sources_give_roms.ensures in
     record {
       says = says;
       language =
@@ -34,9 +35,7 @@ returns c words files files' out out' err err' opened status opens finishes =
       checked = checks_sources _;
       linked = brings_messages c.every_schedule.ensures.always c.every_schedule.ensures.numbers _;
       words = refuses_words _ _ says;
-      due = gives_due _ _ says;
-      complete =
-          completes (rom_never (roms_given c.source_gives_rom.ensures c.sources_give_roms.ensures))
-          (only_checks (roms_given c.source_gives_rom.ensures c.sources_give_roms.ensures)) _ _ says;
-      rom = never_of_rom (roms_given c.source_gives_rom.ensures c.sources_give_roms.ensures) _ _ says;
+      due = gives_due roms _ _ says;
+      complete = completes roms _ _ says;
+      rom = never_of_rom roms _ _ says;
     }

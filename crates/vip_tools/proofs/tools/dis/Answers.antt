@@ -1,6 +1,6 @@
 use Rattle.std.proofs.Common.{ap, [], ◌∷◌}
 use Rattle.vip_tools.specs.declared.status.Status.TheVariants.{Done}
-use Rattle.vip_tools.specs.Outcome.Outcome.{Shown}
+use Rattle.vip_tools.specs.Outcome.{Shown}
 use Rattle.vip_tools.proofs.tools.dis.Goals as goal
 
 pub returns : goal.returns

@@ -1,15 +1,22 @@
-use Rattle.std.proofs.Common.{Err, Ok, subst}
+use Rattle.std.proofs.Common.{Err, List, Ok, subst, ℕ}
 use Rattle.chip8_lang.specs.declared.view.Edition.{Edition}
 use Rattle.vip_relation.specs.State.{Start}
-use Rattle.vip_tools.specs.Outcome.{Outcome}
+use Rattle.vip_tools.specs.Judged.{Judged}
+use Rattle.vip_tools.specs.Outcome.{Output}
+use Rattle.vip_tools.proofs.JudgedLemmas.{refused-first}
 use Rattle.vip_tools.proofs.WorkLemmas.{passed}
 use Rattle.vip_words.specs.Request.{map_run}
-use Rattle.vip_verbs.specs.Opening.{BeginsAt, ShowReady}
-use Rattle.vip_verbs.specs.Outcome.{RunComes, ShowComes, known_in}
-use Rattle.vip_verbs.specs.Prepared.{IsBeginning, PrepareAnswers}
+use Rattle.vip_words.specs.declared.request.RunRequest.{RunRequest}
+use Rattle.vip_verbs.specs.Opening.{ShowReady}
+use Rattle.vip_verbs.specs.Outcome.{RunComes, ShowComes, StartComes, known_in}
+use Rattle.vip_verbs.specs.Prepared.{PrepareAnswers}
 use Rattle.vip_verbs.proofs.FitLemmas.{keys-fit, show-fits, start-fits}
-use Rattle.vip_verbs.proofs.WorkLemmas.{beginning-of, begins-all, begins-map, begins-so, begun-comes, ready-so, refused-begin, refused-beginning, refused-begins, refused-show, run-comes}
+use Rattle.vip_verbs.proofs.WorkLemmas.{beginning-of, begins-all, begun-comes, refused-begin, refused-begun, refused-show, run-comes}
 use Rattle.vip_verbs.proofs.opening.open_run.Goals as goal
+
+-- what is shown of a run
+abbrev Shows : RunRequest (List ℕ) → Edition → Start → Judged Output
+Shows asked e s = ShowComes (known_in asked.start) e s asked.keys asked.limit asked.show
 
 pub start_marks-requires : goal.start_marks-requires
 start_marks-requires c = start-fits (map_run (λ bytes. bytes.items) c.args.request) c.requires.fit
@@ -30,44 +37,51 @@ pub returns-in_err-marks : goal.returns-in_err-marks
 returns-in_err-marks c =
     let asked = map_run (λ bytes. bytes.items) c.args.request in
     passed (PrepareAnswers (RunComes asked)) _ _ c.from_residual.ensures.1
-    (refused-beginning (λ e s. ShowComes (known_in asked.start) e s asked.keys asked.limit asked.show) asked.start _ c.in_err-marks.ensures)
+    (refused-first (StartComes asked.start) (λ s. Shows asked s.edition s.start) _ c.in_err-marks.ensures)
 
 pub returns-in_err-beginning : goal.returns-in_err-beginning
 returns-in_err-beginning c =
     let asked = map_run (λ bytes. bytes.items) c.args.request in
     passed (PrepareAnswers (RunComes asked)) _ _ c.from_residual-in_err-beginning.ensures.1
-    (refused-beginning (λ e s. ShowComes (known_in asked.start) e s asked.keys asked.limit asked.show) asked.start _ c.in_err-beginning.ensures)
+    (refused-first (StartComes asked.start) (λ s. Shows asked s.edition s.start) _ c.in_err-beginning.ensures)
 
 pub returns-in_err-show : goal.returns-in_err-show
 returns-in_err-show c =
     let asked = map_run (λ bytes. bytes.items) c.args.request in
     let at = c.in_ok-beginning.beginning in
-    let Here : Edition → Start → Outcome → Type 0 = λ e s. ShowComes (known_in asked.start) e s asked.keys asked.limit asked.show in
     passed (PrepareAnswers (RunComes asked)) _ _ c.from_residual-in_err-show.ensures.1
-    (ready-so (λ o. BeginsAt at (λ e s. Here e s o)) (RunComes asked) (begun-comes Here asked.start at c.in_ok-beginning.ensures.0 c.in_ok-beginning.ensures.1) (Err _)
-    (refused-begins at Here _
+    (refused-begun (Shows asked) asked.start at c.in_ok-beginning.ensures.0 _
     (begins-all _ at c.in_ok-beginning.ensures.1 (λ e s. refused-show e s asked.keys (known_in asked.start) asked.limit asked.show _
-    (subst (λ known. ShowReady known asked.limit asked.show (Err c.in_err-show.field-0.0)) c.in_ok-marks.ensures c.in_err-show.ensures)))))
+    (subst (λ known. ShowReady known asked.limit asked.show (Err c.in_err-show.field-0.0)) c.in_ok-marks.ensures c.in_err-show.ensures))))
 
 pub returns-in_err-run : goal.returns-in_err-run
 returns-in_err-run c =
     let asked = map_run (λ bytes. bytes.items) c.args.request in
     let at = c.in_ok-beginning.beginning in
-    let Here : Edition → Start → Outcome → Type 0 = λ e s. ShowComes (known_in asked.start) e s asked.keys asked.limit asked.show in
+    let begins = c.in_err-run.ensures in
     passed (PrepareAnswers (RunComes asked)) _ _ c.from_residual-in_err-run.ensures.1
-    (ready-so (λ o. BeginsAt at (λ e s. Here e s o)) (RunComes asked) (begun-comes Here asked.start at c.in_ok-beginning.ensures.0 c.in_ok-beginning.ensures.1) (Err _)
-    (refused-begins at Here _
-    (begins-map _ _ at (λ e s. refused-begin e s asked.keys (known_in asked.start) asked.limit c.in_ok-show.show asked.show
-    (subst (λ known. ShowReady known asked.limit asked.show (Ok c.in_ok-show.show)) c.in_ok-marks.ensures c.in_ok-show.ensures) _) c.in_err-run.ensures)))
+    (refused-begun (Shows asked) asked.start at c.in_ok-beginning.ensures.0 _
+    (record {
+      value = begins.value;
+      gives = begins.gives;
+      here =
+          refused-begin begins.value.edition begins.value.start asked.keys (known_in asked.start) asked.limit c.in_ok-show.show asked.show
+          (subst (λ known. ShowReady known asked.limit asked.show (Ok c.in_ok-show.show)) c.in_ok-marks.ensures c.in_ok-show.ensures) _ begins.here;
+    }))
 
 pub returns : goal.returns
 returns c =
     let asked = map_run (λ bytes. bytes.items) c.args.request in
     let at = c.in_ok-beginning.beginning in
-    let Here : Edition → Start → Outcome → Type 0 = λ e s. ShowComes (known_in asked.start) e s asked.keys asked.limit asked.show in
-    let run = c.in_ok-run.run' in (
-      (begins-so _ (IsBeginning run) at (λ e s begins. beginning-of e s begins.script run begins.here) c.in_ok-run.ensures, c.requires.limit),
-      begun-comes Here asked.start at c.in_ok-beginning.ensures.0 c.in_ok-beginning.ensures.1 _
-          (begins-map _ _ at (λ e s. run-comes e s asked.keys (known_in asked.start) asked.limit c.in_ok-show.show asked.show
-          (subst (λ known. ShowReady known asked.limit asked.show (Ok c.in_ok-show.show)) c.in_ok-marks.ensures c.in_ok-show.ensures) run) c.in_ok-run.ensures),
+    let run = c.in_ok-run.run' in
+    let begins = c.in_ok-run.ensures in (
+      (beginning-of begins.value.edition begins.value.start begins.here.value run begins.here.here.here, c.requires.limit),
+      begun-comes (Shows asked) asked.start at c.in_ok-beginning.ensures.0 _
+          (record {
+            value = begins.value;
+            gives = begins.gives;
+            here =
+                run-comes begins.value.edition begins.value.start asked.keys (known_in asked.start) asked.limit c.in_ok-show.show asked.show
+                (subst (λ known. ShowReady known asked.limit asked.show (Ok c.in_ok-show.show)) c.in_ok-marks.ensures c.in_ok-show.ensures) run begins.here;
+          }),
     )

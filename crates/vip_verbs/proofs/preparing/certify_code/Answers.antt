@@ -1,19 +1,19 @@
 use Rattle.vip_words.specs.Request.{map_code}
 use Rattle.vip_tools.specs.Certificates.{CertifyComes}
 use Rattle.vip_tools.specs.Code.{GameComes}
+use Rattle.vip_tools.specs.Judged.{bind}
 use Rattle.vip_tools.specs.Work.{TextAnswers}
-use Rattle.vip_tools.proofs.CodeLemmas.{game-comes, refused-game, text-so}
-use Rattle.vip_tools.proofs.WorkLemmas.{passed}
+use Rattle.vip_tools.proofs.JudgedLemmas.{refused-first}
+use Rattle.vip_tools.proofs.WorkLemmas.{passed, text-behind}
 use Rattle.vip_verbs.proofs.preparing.certify_code.Goals as goal
 
 pub returns-in_err-game : goal.returns-in_err-game
 returns-in_err-game c =
-    let code = map_code (λ bytes. bytes.items) c.args.code in
-    passed (TextAnswers (GameComes c.args.edition code (CertifyComes c.args.edition))) _ _ c.from_residual.ensures.1
-    (refused-game c.args.edition code (CertifyComes c.args.edition) _ c.in_err-game.ensures)
+    let comes = GameComes c.args.edition (map_code (λ bytes. bytes.items) c.args.code) in
+    passed (TextAnswers (bind comes (CertifyComes c.args.edition))) _ _ c.from_residual.ensures.1
+    (refused-first comes (CertifyComes c.args.edition) _ c.in_err-game.ensures)
 
 pub returns : goal.returns
 returns c =
-    let code = map_code (λ bytes. bytes.items) c.args.code in
-    text-so _ _ (game-comes c.args.edition code (CertifyComes c.args.edition) c.in_ok-game.game.items c.in_ok-game.ensures.0 c.in_ok-game.ensures.1) _
-    (rw c.as_slice.ensures.value at c.certify.ensures)
+    let comes = GameComes c.args.edition (map_code (λ bytes. bytes.items) c.args.code) in
+    text-behind comes (CertifyComes c.args.edition) c.in_ok-game.game.items c.in_ok-game.ensures.0 _ (rw c.as_slice.ensures.value at c.certify.ensures)

@@ -2,7 +2,9 @@ use Rattle.vip_words.specs.Request.{map_code}
 use Rattle.vip_tools.specs.Code.{GameComes}
 use Rattle.vip_tools.specs.Certificates.{CertifyComes, CyclesComes, SafeComes, TimingComes}
 use Rattle.vip_tools.specs.Help.{HelpComes, VersionComes}
-use Rattle.vip_tools.specs.Outcome.{AsmComes, BoundsComes, ListComes}
+use Rattle.vip_tools.specs.Judged.{bind}
+use Rattle.vip_tools.specs.Outcome.{BoundsComes}
+use Rattle.vip_tools.specs.Sources.{AsmComes, ListComes}
 use Rattle.vip_verbs.specs.Outcome.{BuiltInComes}
 use Rattle.vip_verbs.proofs.FitLemmas.{bytes-fit}
 use Rattle.vip_verbs.proofs.WorkLemmas.{checked-answers, text-answers}
@@ -61,13 +63,13 @@ pub returns-in-Safe : goal.returns-in-Safe
 returns-in-Safe c =
     let game = map_code (λ bytes. bytes.items) c.in-Safe.game in
     rw (c.in-Safe.is, c.text-in-Safe.ensures)
-    (text-answers (GameComes c.in-Safe.edition game (λ game. SafeComes c.in-Safe.edition game c.in-Safe.certificate.items)) _
+    (text-answers (bind (GameComes c.in-Safe.edition game) (λ game. SafeComes c.in-Safe.edition game c.in-Safe.certificate.items)) _
     (rw c.as_slice-in-Safe.ensures.value at c.safe_code.ensures))
 
 pub returns-in-Certify : goal.returns-in-Certify
 returns-in-Certify c =
     rw (c.in-Certify.is, c.text-in-Certify.ensures)
-    (text-answers (GameComes c.in-Certify.edition (map_code (λ bytes. bytes.items) c.in-Certify.game) (CertifyComes c.in-Certify.edition)) _ c.certify_code.ensures)
+    (text-answers (bind (GameComes c.in-Certify.edition (map_code (λ bytes. bytes.items) c.in-Certify.game)) (CertifyComes c.in-Certify.edition)) _ c.certify_code.ensures)
 
 pub returns-in-Check : goal.returns-in-Check
 returns-in-Check c =

@@ -1,5 +1,5 @@
 use Rattle.std.proofs.Common.{ap, [], ◌∷◌}
-use Rattle.vip_tools.specs.Outcome.Outcome.{Shown}
+use Rattle.vip_tools.specs.Outcome.{Shown}
 use Rattle.vip_tools.specs.declared.status.Status.TheVariants.{Done}
 use Rattle.vip_verbs.proofs.preparing.write.Goals as goal
 

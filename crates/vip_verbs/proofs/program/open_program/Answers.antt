@@ -1,16 +1,23 @@
 use Rattle.std.proofs.Common.{ℕ, List, Err, Ok, subst}
-use Rattle.vip_tools.specs.Outcome.{Outcome}
-use Rattle.vip_tools.proofs.CodeLemmas.{code-short, image-comes, refused-image, refused-so, unmarked-image}
+use Rattle.vip_tools.specs.Judged.{Judged}
+use Rattle.vip_tools.specs.Outcome.{Output}
+use Rattle.vip_tools.proofs.CodeLemmas.{code-short, unassembled-image}
+use Rattle.vip_tools.proofs.JudgedLemmas.{behind, refused-behind, refused-first}
 use Rattle.vip_tools.proofs.WorkLemmas.{passed}
 use Rattle.asm_lex.specs.declared.shape.Isa.TheVariants.{Cdp1802}
-use Rattle.vip_tools.specs.Code.{known_of}
+use Rattle.vip_tools.specs.Code.{ImageComes, known_of}
 use Rattle.vip_words.specs.Request.{map_program}
+use Rattle.vip_words.specs.declared.request.ProgramRequest.{ProgramRequest}
 use Rattle.vip_verbs.specs.Opening.{ProgramShowReady}
 use Rattle.vip_verbs.specs.Programs.{ProgramRunComes, ProgramShowComes}
 use Rattle.vip_verbs.specs.Prepared.{PrepareAnswers}
 use Rattle.vip_verbs.proofs.FitLemmas.{program-fits, program-keys-fit, program-show-fits}
 use Rattle.vip_verbs.proofs.ProgramLemmas.{begun-of, program-comes, refused-board, refused-program-show}
 use Rattle.vip_verbs.proofs.program.open_program.Goals as goal
+
+-- what is shown of a program's run, by the bytes of both memories
+abbrev Shows : ProgramRequest (List ℕ) → List ℕ × List ℕ → Judged Output
+Shows asked image = ProgramShowComes (known_of Cdp1802 asked.code) asked.memory image.0 image.1 asked.keys asked.limit asked.show
 
 pub of-requires : goal.of-requires
 of-requires c =
@@ -33,22 +40,20 @@ pub returns-in_err-marks : goal.returns-in_err-marks
 returns-in_err-marks c =
     let asked = map_program (λ bytes. bytes.items) c.args.request in
     passed (PrepareAnswers (ProgramRunComes asked)) _ _ c.from_residual.ensures.1
-    (refused-image asked.memory asked.code (λ rom ram. ProgramShowComes (known_of Cdp1802 asked.code) asked.memory rom ram asked.keys asked.limit asked.show) _
-    (unmarked-image asked.code _ c.in_err-marks.ensures))
+    (refused-first (ImageComes asked.memory asked.code) (Shows asked) _ (unassembled-image asked.memory asked.code _ c.in_err-marks.ensures))
 
 pub returns-in_err-image : goal.returns-in_err-image
 returns-in_err-image c =
     let asked = map_program (λ bytes. bytes.items) c.args.request in
     passed (PrepareAnswers (ProgramRunComes asked)) _ _ c.from_residual-in_err-image.ensures.1
-    (refused-image asked.memory asked.code (λ rom ram. ProgramShowComes (known_of Cdp1802 asked.code) asked.memory rom ram asked.keys asked.limit asked.show) _ c.in_err-image.ensures)
+    (refused-first (ImageComes asked.memory asked.code) (Shows asked) _ c.in_err-image.ensures)
 
 pub returns-in_err-show : goal.returns-in_err-show
 returns-in_err-show c =
     let asked = map_program (λ bytes. bytes.items) c.args.request in
     let image = c.in_ok-image.image in
-    let Here : List ℕ → List ℕ → Outcome → Type 0 = λ rom ram. ProgramShowComes (known_of Cdp1802 asked.code) asked.memory rom ram asked.keys asked.limit asked.show in
     passed (PrepareAnswers (ProgramRunComes asked)) _ _ c.from_residual-in_err-show.ensures.1
-    (refused-so _ _ (image-comes asked.memory asked.code Here image.rom.items image.ram.items c.in_ok-image.ensures.0) _
+    (refused-behind (ImageComes asked.memory asked.code) (Shows asked) (image.rom.items, image.ram.items) c.in_ok-image.ensures.0 _
     (refused-program-show asked.memory image.rom.items image.ram.items asked.keys (known_of Cdp1802 asked.code) asked.limit asked.show _
     (subst (λ known. ProgramShowReady known asked.limit asked.show (Err c.in_err-show.field-0.0)) c.in_ok-marks.ensures c.in_err-show.ensures)))
 
@@ -56,9 +61,8 @@ pub returns-in_err-board : goal.returns-in_err-board
 returns-in_err-board c =
     let asked = map_program (λ bytes. bytes.items) c.args.request in
     let image = c.in_ok-image.image in
-    let Here : List ℕ → List ℕ → Outcome → Type 0 = λ rom ram. ProgramShowComes (known_of Cdp1802 asked.code) asked.memory rom ram asked.keys asked.limit asked.show in
     passed (PrepareAnswers (ProgramRunComes asked)) _ _ c.from_residual-in_err-board.ensures.1
-    (refused-so _ _ (image-comes asked.memory asked.code Here image.rom.items image.ram.items c.in_ok-image.ensures.0) _
+    (refused-behind (ImageComes asked.memory asked.code) (Shows asked) (image.rom.items, image.ram.items) c.in_ok-image.ensures.0 _
     (refused-board asked.memory image.rom.items image.ram.items asked.keys (known_of Cdp1802 asked.code) asked.limit c.in_ok-show.show asked.show
     (subst (λ known. ProgramShowReady known asked.limit asked.show (Ok c.in_ok-show.show)) c.in_ok-marks.ensures c.in_ok-show.ensures) _ c.in_err-board.ensures))
 
@@ -66,10 +70,9 @@ pub returns : goal.returns
 returns c =
     let asked = map_program (λ bytes. bytes.items) c.args.request in
     let image = c.in_ok-image.image in
-    let Here : List ℕ → List ℕ → Outcome → Type 0 = λ rom ram. ProgramShowComes (known_of Cdp1802 asked.code) asked.memory rom ram asked.keys asked.limit asked.show in
     let begins = c.in_ok-board.ensures in (
       (begun-of _ _ _ _ _ begins, c.requires.limit),
-      image-comes asked.memory asked.code Here image.rom.items image.ram.items c.in_ok-image.ensures.0 _
+      behind (ImageComes asked.memory asked.code) (Shows asked) (image.rom.items, image.ram.items) c.in_ok-image.ensures.0 _
           (program-comes asked.memory image.rom.items image.ram.items asked.keys (known_of Cdp1802 asked.code) asked.limit c.in_ok-show.show asked.show
           (subst (λ known. ProgramShowReady known asked.limit asked.show (Ok c.in_ok-show.show)) c.in_ok-marks.ensures c.in_ok-show.ensures) _ begins),
     )
