@@ -16,8 +16,8 @@ use Rattle.chip8_lang.specs.Events.Event.{Picture, Dispatch, Stopped}
 use Rattle.chip8_lang.specs.Places.{Interpreter}
 use Rattle.chip8_image.specs.Interpreters.{interpreter_of}
 use Rattle.rom_run.specs.States.{MayStart}
-use Rattle.rom_timer.specs.Frame.{IsOutside}
-use Rattle.rom_timer.proofs.Frame.{case_runs}
+use Rattle.rom_parts.specs.timer.Frame.{IsOutside}
+use Rattle.rom_parts.proofs.timer.Frame.{case_runs}
 use Rattle.vip_board.proofs.Along.{later-run, run-last, run-split, states-more}
 use Rattle.vip_relation.specs.Follows.{Fits, last_dispatch}
 use Rattle.vip_relation.specs.Points.{point_of, point_events}

@@ -5,15 +5,16 @@ use Rattle.machine.specs.Keys.{held_at}
 use Rattle.machine.specs.Pictures.{interrupt_at, place, interrupt_place}
 use Rattle.machine.specs.Run.{after_moves}
 use Rattle.machine.specs.Schedule.{Tick}
+use Rattle.chip8_image.specs.declared.parts.Part.TheVariants.{Timer as IsTimer}
 use Rattle.chip8_lang.specs.declared.view.Edition.{Edition}
 use Rattle.chip8_lang.specs.Editions.{memory_end}
 use Rattle.rom_law.specs.Rows.{Since, after_tick}
 use Rattle.rom_law.specs.Runs.{Moves}
 use Rattle.rom_rows.specs.Rom.{image, vip}
-use Rattle.rom_timer.specs.Routine.{IsTick, routine_moves, routine_cycles}
-use Rattle.rom_timer.specs.Scan.{Scans}
+use Rattle.rom_parts.specs.timer.Routine.{IsTick, routine_moves, routine_cycles}
+use Rattle.rom_parts.specs.timer.Scan.{Scans}
 use Rattle.rom_run.specs.Running.{Running}
-use Rattle.rom_run.proofs.Image.{run_scan}
+use Rattle.rom_run.proofs.Image.{parts}
 use Rattle.rom_run.proofs.Moves.{interrupted}
 use Rattle.rom_run.proofs.States.{taken_there}
 use Rattle.rom_run.proofs.WholeTick.{main_there, whole_tick, tick_comes}
@@ -56,7 +57,7 @@ module _ (e : Edition) (h : Since) (old : Seen) (o : StartsTick e h old) where
         interrupt = at;
         scans =
             subst (λ rom. Scans e rom m old.machine (held_by old)) (sym o.0.0) (
-            run_scan e m old.machine (held_by old) (interrupted e old.script old.machine h m (main_there e old.script old.machine h o.0.1 place_is) at));
+            (parts IsTimer).laws.own.scan e m old.machine (held_by old) (interrupted e old.script old.machine h m (main_there e old.script old.machine h o.0.1 place_is) at));
       }
 
   machine_is : (ticked old).machine ≡ after_moves (image e) (held_by old) old.machine routine_moves

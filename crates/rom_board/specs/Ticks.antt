@@ -10,8 +10,8 @@ use Rattle.rom_law.specs.Rows.{Since, after_tick}
 use Rattle.rom_law.specs.Runs.{Moves}
 use Rattle.rom_rows.specs.Rom.{vip}
 use Rattle.rom_run.specs.Running.{Running}
-use Rattle.rom_timer.specs.Routine.{routine_moves, routine_cycles}
-use Rattle.rom_timer.specs.Scan.{Scans}
+use Rattle.rom_parts.specs.timer.Routine.{routine_moves, routine_cycles}
+use Rattle.rom_parts.specs.timer.Scan.{Scans}
 use Rattle.vip_board.specs.Moves.{moved}
 use Rattle.vip_board.specs.Seen.{Seen, held_by}
 use Rattle.rom_board.specs.Runs.{RunsWith}

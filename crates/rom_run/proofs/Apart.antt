@@ -3,7 +3,7 @@ use Rattle.std.proofs.Common.{◌≡◌, ℕ, refl, sym, ◌∙◌, ap, true, fa
 use Rattle.machine.specs.Instruction.{at}
 use Rattle.machine.specs.Board.{Machine}
 use Rattle.chip8_image.specs.declared.parts.Part.{Part}
-use Rattle.chip8_image.specs.declared.parts.Part.TheVariants.{Fetch, Sprite, Timer, Keys}
+use Rattle.chip8_image.specs.declared.parts.Part.TheVariants.{Fetch, Arith, Memory, Sprite, Timer, Keys}
 use Rattle.chip8_image.specs.Parts.{is_part, part_of}
 use Rattle.chip8_lang.specs.declared.view.Edition.{Edition}
 use Rattle.rom_law.specs.Program.{Program}
@@ -19,8 +19,7 @@ use Rattle.rom_rows.specs.Table.Place.{AtTimer, AtKey, AtSprite}
 use Rattle.rom_rows.proofs.Facts.{lies_at}
 use Rattle.rom_rows.proofs.PlaceFacts.{place_facts}
 use Rattle.rom_rows.proofs.Table.{block_facts}
-use Rattle.rom_run.proofs.Image.{arith_addresses as arith_run, memory_addresses as memory_run, timer_addresses as timer_run, timer_place_addresses as timer_place_run}
-use Rattle.rom_run.proofs.Image.{key_addresses as key_run, key_place_addresses as key_place_run, sprite_addresses as sprite_run, sprite_place_addresses as sprite_place_run}
+use Rattle.rom_run.proofs.Image.{parts}
 use Rattle.rom_run.specs.Laws.{IsIn}
 
 module _ (e : Edition) where
@@ -41,11 +40,11 @@ module _ (e : Edition) where
 
   pub fetch_row : (b : Machine) (h : Since) → Row x (pieces x) b h → IsIn Fetch b → (l : FetchBlock) × InBlock x (pieces x) (OfFetch l) b h
   fetch_row b h (InRow (OfFetch l) r) at = (l, r)
-  fetch_row b h (InRow (OfArith l) r) at = off_block (OfArith l) b h (arith_run e l) refl r at
-  fetch_row b h (InRow (OfMemory l) r) at = off_block (OfMemory l) b h (memory_run e l) refl r at
-  fetch_row b h (InRow (OfSprite l) r) at = off_block (OfSprite l) b h (sprite_run e l) refl r at
-  fetch_row b h (InRow (OfTimer l) r) at = off_block (OfTimer l) b h (timer_run e l) refl r at
-  fetch_row b h (InRow (OfKey l) r) at = off_block (OfKey l) b h (key_run e l) refl r at
-  fetch_row b h (Alone (AtTimer l) o) at = elsewhere Timer b _ (timer_place_run e l b h o) (place_facts (AtTimer l)).lies refl at
-  fetch_row b h (Alone (AtKey l) o) at = elsewhere Keys b _ (key_place_run e l b h o) (place_facts (AtKey l)).lies refl at
-  fetch_row b h (Alone (AtSprite l) o) at = elsewhere Sprite b _ (sprite_place_run e l b h o) (place_facts (AtSprite l)).lies refl at
+  fetch_row b h (InRow (OfArith l) r) at = off_block (OfArith l) b h ((parts Arith).laws.addresses e l) refl r at
+  fetch_row b h (InRow (OfMemory l) r) at = off_block (OfMemory l) b h ((parts Memory).laws.addresses e l) refl r at
+  fetch_row b h (InRow (OfSprite l) r) at = off_block (OfSprite l) b h ((parts Sprite).laws.addresses e l) refl r at
+  fetch_row b h (InRow (OfTimer l) r) at = off_block (OfTimer l) b h ((parts Timer).laws.addresses e l) refl r at
+  fetch_row b h (InRow (OfKey l) r) at = off_block (OfKey l) b h ((parts Keys).laws.addresses e l) refl r at
+  fetch_row b h (Alone (AtTimer l) o) at = elsewhere Timer b _ ((parts Timer).laws.place_addresses e l b h o) (place_facts (AtTimer l)).lies refl at
+  fetch_row b h (Alone (AtKey l) o) at = elsewhere Keys b _ ((parts Keys).laws.place_addresses e l b h o) (place_facts (AtKey l)).lies refl at
+  fetch_row b h (Alone (AtSprite l) o) at = elsewhere Sprite b _ ((parts Sprite).laws.place_addresses e l b h o) (place_facts (AtSprite l)).lies refl at

@@ -5,6 +5,7 @@ use Rattle.machine.specs.Board.{Machine, move}
 use Rattle.machine.specs.Keys.{Keys, Event, held_at}
 use Rattle.machine.specs.Pictures.{interrupt_at, place, interrupt_place}
 use Rattle.machine.specs.Run.{after_moves}
+use Rattle.chip8_image.specs.declared.parts.Part.TheVariants.{Timer as IsTimer}
 use Rattle.chip8_lang.specs.declared.view.Edition.{Edition}
 use Rattle.chip8_lang.specs.Between.{ticks_between}
 use Rattle.chip8_lang.specs.Bounds.{bound_of}
@@ -14,12 +15,12 @@ use Rattle.rom_law.proofs.Kept.{row_runs, row_cycles}
 use Rattle.rom_law.proofs.Ahead.{later_cycle}
 use Rattle.rom_rows.specs.Rom.{image, vip}
 use Rattle.rom_rows.specs.Table.{pieces}
-use Rattle.rom_timer.specs.Frame.{Makes}
-use Rattle.rom_timer.specs.Frame.Makes.{Runs, Waits, Accepts}
-use Rattle.rom_timer.specs.Routine.{routine_moves, routine_cycles}
-use Rattle.rom_timer.proofs.Frame.{every_move, keeps_place, keeps_waiting}
-use Rattle.rom_timer.proofs.Interval.{ticks_main, ticks_wait, ticks_served}
-use Rattle.rom_run.proofs.Image.{run_tick}
+use Rattle.rom_parts.specs.timer.Frame.{Makes}
+use Rattle.rom_parts.specs.timer.Frame.Makes.{Runs, Waits, Accepts}
+use Rattle.rom_parts.specs.timer.Routine.{routine_moves, routine_cycles}
+use Rattle.rom_parts.proofs.timer.Frame.{every_move, keeps_place, keeps_waiting}
+use Rattle.rom_parts.proofs.timer.Interval.{ticks_main, ticks_wait, ticks_served}
+use Rattle.rom_run.proofs.Image.{parts}
 use Rattle.rom_run.specs.Time.{Spends, Suffices, Timed}
 use Rattle.rom_run.specs.Running.{Interval, Counted, Outside, Running}
 use Rattle.rom_run.specs.Running.Outside.{AtRow, AtEvent}
@@ -69,7 +70,7 @@ module _ (e : Edition) (script : List Event) where
   in_routine : (b : Machine) (h : Since) (m k bound : ℕ) → Outside e script b h → b.cycle ≡ interrupt_at m → k < routine_moves
       → bound_of e h.state ≡ Some bound → (after_moves (image e) held b (suc k)).cycle ≤ h.from + bound
   in_routine b h m k bound o i l known =
-      chain (later_cycle (image e) held b (suc k) routine_moves (omega (arith, l))) (run_tick e m b held (interrupted e script b h m o i)).cycle
+      chain (later_cycle (image e) held b (suc k) routine_moves (omega (arith, l))) ((parts IsTimer).laws.own.tick e m b held (interrupted e script b h m o i)).cycle
       (served b h m bound o i known)
 
   row_timely : (b : Machine) (h : Since) (bound : ℕ) (t : Interval e script b h) (row : Row x (pieces x) b h) (n : Counted e b) (time : Timed e b h)

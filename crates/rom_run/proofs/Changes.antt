@@ -10,6 +10,7 @@ use Rattle.machine.specs.Keys.{Event, Keys, held_at}
 use Rattle.machine.specs.Pictures.{interrupt_at, place, interrupt_place}
 use Rattle.machine.specs.Run.{after_moves}
 use Rattle.machine.proofs.Runs.{later-move}
+use Rattle.chip8_image.specs.declared.parts.Part.TheVariants.{Timer as IsTimer}
 use Rattle.chip8_lang.specs.declared.view.Edition.{Edition}
 use Rattle.chip8_lang.specs.declared.view.Stop.{Stop}
 use Rattle.chip8_lang.specs.Events.{is_dispatch}
@@ -25,10 +26,10 @@ use Rattle.rom_law.proofs.Kept.{row_cycles, row_runs}
 use Rattle.rom_law.proofs.States.{holds_after, since_still}
 use Rattle.rom_rows.specs.Rom.{image, vip}
 use Rattle.rom_rows.specs.Table.{pieces, calm_pieces, waited_pieces}
-use Rattle.rom_timer.specs.Frame.{Makes}
-use Rattle.rom_timer.specs.Frame.Makes.{Runs, Waits, Accepts}
-use Rattle.rom_timer.specs.Routine.{IsTick, routine_moves, routine_cycles}
-use Rattle.rom_timer.proofs.Frame.{case_accepts, case_runs, every_move, keeps_place}
+use Rattle.rom_parts.specs.timer.Frame.{Makes}
+use Rattle.rom_parts.specs.timer.Frame.Makes.{Runs, Waits, Accepts}
+use Rattle.rom_parts.specs.timer.Routine.{IsTick, routine_moves, routine_cycles}
+use Rattle.rom_parts.proofs.timer.Frame.{case_accepts, case_runs, every_move, keeps_place}
 use Rattle.rom_run.specs.Display.{WritesScreen, RunsMain, SameInterval, AtDisplay, Changes}
 use Rattle.rom_run.specs.Display.AtDisplay.{HasWaited, Writes}
 use Rattle.rom_run.specs.Laws.{ChangesSoon, WritesSoon}
@@ -41,7 +42,7 @@ use Rattle.rom_run.specs.Time.Timed.{Before, Waiting, Behind}
 use Rattle.rom_run.proofs.Behind.{waited_moves, waited_cycle, waited_awake, row_wakes}
 use Rattle.rom_run.proofs.Calm.{calm_writes}
 use Rattle.rom_run.proofs.Display.{due_awake, woken_since}
-use Rattle.rom_run.proofs.Image.{run_tick}
+use Rattle.rom_run.proofs.Image.{parts}
 use Rattle.rom_run.proofs.Moves.{board_moves, counts_main, dispatch_there, interrupted}
 use Rattle.rom_run.proofs.Proved.{proved}
 use Rattle.rom_run.proofs.Run.{starts_running}
@@ -184,7 +185,7 @@ module _ (e : Edition) (script : List Event) where
       → Woken e (after_moves (image e) held b routine_moves) (after_tick h)
   woken_at b h m (AtRow t row n time) at i =
       let w = row_waits e b h i row in
-      let tick : IsTick e (image e) m b held = run_tick e m b held (interrupted e script b h m (AtRow t row n time) at) in
+      let tick : IsTick e (image e) m b held = (parts IsTimer).laws.own.tick e m b held (interrupted e script b h m (AtRow t row n time) at) in
       wakes e (after_moves (image e) held b routine_moves) h m w
       (row_wakes e b (after_moves (image e) held b routine_moves) h t.fits i tick.tick row) tick.cycle (woken_then e script b h m t i w time at)
   woken_at b h m (AtEvent t p d late y) at i = absurd (due_awake e script b h i d)

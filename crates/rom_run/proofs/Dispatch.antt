@@ -5,7 +5,7 @@ use Rattle.machine.specs.Keys.{Event, Keys, held_at}
 use Rattle.machine.specs.Pictures.{interrupt_at}
 use Rattle.machine.specs.Signals.{efx_at}
 use Rattle.chip8_image.specs.declared.TheConstants.{DISPATCH}
-use Rattle.chip8_image.specs.declared.parts.Part.TheVariants.{Fetch}
+use Rattle.chip8_image.specs.declared.parts.Part.TheVariants.{Fetch, Timer as IsTimer}
 use Rattle.chip8_lang.specs.declared.view.Edition.{Edition}
 use Rattle.chip8_lang.specs.State.{is_fetchable}
 use Rattle.rom_law.specs.Rows.{Since, InBlock, Row}
@@ -15,10 +15,10 @@ use Rattle.rom_rows.specs.FetchBlocks.{FetchBlock}
 use Rattle.rom_rows.specs.Rom.{image, vip}
 use Rattle.rom_rows.specs.Table.{pieces}
 use Rattle.rom_rows.specs.Table.Block.{OfFetch}
-use Rattle.rom_run.proofs.Image.{dispatch_time, run_tick}
-use Rattle.rom_timer.specs.Frame.{Makes}
-use Rattle.rom_timer.specs.Frame.Makes.{Runs, Waits, Accepts}
-use Rattle.rom_timer.proofs.Frame.{every_move}
+use Rattle.rom_run.proofs.Image.{parts}
+use Rattle.rom_parts.specs.timer.Frame.{Makes}
+use Rattle.rom_parts.specs.timer.Frame.Makes.{Runs, Waits, Accepts}
+use Rattle.rom_parts.proofs.timer.Frame.{every_move}
 use Rattle.rom_run.specs.Laws.{IsIn, DispatchIn}
 use Rattle.rom_run.specs.Running.{Interval, Outside, Running}
 use Rattle.rom_run.specs.Running.Outside.{AtRow, AtEvent}
@@ -36,11 +36,11 @@ module _ (e : Edition) (script : List Event) where
 
   -- the interrupt sets P to 1
   after_interrupt : (b : Machine) (h : Since) (m : ℕ) → Outside e script b h → b.cycle ≡ interrupt_at m → (move (image e) held b).regs.p ≡ 1
-  after_interrupt b h m o i = ((run_tick e m b held (interrupted e script b h m o i)).inside 1 (omega arith) (omega arith)).by_r1
+  after_interrupt b h m o i = (((parts IsTimer).laws.own.tick e m b held (interrupted e script b h m o i)).inside 1 (omega arith) (omega arith)).by_r1
 
   block_time : (b : Machine) (h : Since) → (l : FetchBlock) × InBlock (vip e) (pieces (vip e)) (OfFetch l) b h → is_fetchable e h.state ≡ true
       → b.regs.p ≡ 4 → (main_move (image e) (efx_at (b.cycle + 1) true) (held (b.cycle + 1)) b).regs.p ≡ 3 → h.spent + 2 ≡ DISPATCH
-  block_time b h (l, r) inside p q = dispatch_time e l (record { efx = efx_at (b.cycle + 1) true; held = held (b.cycle + 1) }) b h r inside p q
+  block_time b h (l, r) inside p q = (parts Fetch).laws.own.dispatch e l (record { efx = efx_at (b.cycle + 1) true; held = held (b.cycle + 1) }) b h r inside p q
 
   abbrev IsTimed : Machine → Since → Type 0
   IsTimed b h = (carried (image e) held b h).spent ≡ DISPATCH
@@ -64,7 +64,7 @@ module _ (e : Edition) (script : List Event) where
       there : b.cycle ≡ interrupt_at (b.cycle / 3668)
       there = omega (arith, i)
   time b h (InRoutine s) at inside p q =
-      differ ((run_tick e s.m s.start held (interrupted e script s.start s.before s.m s.outside s.cycle)).inside s.k s.some s.inside).by_r1
+      differ (((parts IsTimer).laws.own.tick e s.m s.start held (interrupted e script s.start s.before s.m s.outside s.cycle)).inside s.k s.some s.inside).by_r1
       (sym (ap (λ (z : Machine). z.regs.p) s.is) ∙ p) (λ k. omega (arith, k))
 
 pub dispatch_in : DispatchIn

@@ -7,7 +7,7 @@ use Rattle.rom_law.specs.Rows.{Since, Row}
 use Rattle.rom_rows.specs.Rom.{vip}
 use Rattle.rom_rows.specs.Table.{calm_pieces}
 use Rattle.machine.specs.Pictures.{place, interrupt_place}
-use Rattle.rom_timer.specs.Routine.{routine_cycles}
+use Rattle.rom_parts.specs.timer.Routine.{routine_cycles}
 use Rattle.rom_run.specs.Display.{Display}
 use Rattle.rom_run.specs.Laws.{Undisturbed, WaitsSoon}
 use Rattle.rom_run.specs.Time.{Timed, Woken, wait_time, since_return, most_changing}

@@ -16,8 +16,8 @@ use Rattle.rom_rows.specs.Table.Place.{AtKey}
 use Rattle.rom_rows.proofs.Facts.{IsEndless, IsEndlessAt}
 use Rattle.rom_rows.proofs.PlaceFacts.{place_facts}
 use Rattle.rom_rows.proofs.Table.{block_facts}
-use Rattle.rom_keys.specs.Laws.{Scans}
-use Rattle.rom_keys.specs.Laws.Scans.{UpTo, AtTest, Behind as BehindTest}
+use Rattle.rom_parts.specs.keys.Laws.{Scans}
+use Rattle.rom_parts.specs.keys.Laws.Scans.{UpTo, AtTest, Behind as BehindTest}
 use Rattle.rom_run.specs.Time.{Spends, Timed}
 use Rattle.rom_run.specs.Running.{Interval}
 use Rattle.rom_run.specs.Time.Timed.{Before, Waiting, Behind}

@@ -7,6 +7,7 @@ use Rattle.std.proofs.lemmas.Option.{slice_get_within}
 use Rattle.machine.specs.Board.{Machine, move}
 use Rattle.machine.specs.Keys.{Keys, Event, held_at}
 use Rattle.machine.proofs.Runs.{later-move}
+use Rattle.chip8_image.specs.declared.parts.Part.TheVariants.{Keys as IsKeys}
 use Rattle.chip8_lang.specs.declared.view.Edition.{Edition}
 use Rattle.chip8_lang.specs.Bounds.{Pressed, bound_of, key_cycles}
 use Rattle.chip8_lang.specs.State.{Lang}
@@ -20,12 +21,12 @@ use Rattle.rom_law.proofs.Kept.{row_runs, row_cycles}
 use Rattle.rom_law.proofs.Language.{get_append}
 use Rattle.rom_rows.specs.Rom.{image, vip}
 use Rattle.rom_rows.specs.Table.{pieces}
-use Rattle.rom_keys.specs.Laws.{Counted, Lately, Scans, Within}
-use Rattle.rom_run.proofs.Image.{none_stays, stays_down, goes_up}
-use Rattle.rom_keys.proofs.Sets.{get_last, length_more}
-use Rattle.rom_timer.specs.Frame.{Makes}
-use Rattle.rom_timer.specs.Frame.Makes.{Runs, Waits, Accepts}
-use Rattle.rom_timer.proofs.Frame.{accepted, case_accepts, case_waits, every_move}
+use Rattle.rom_parts.specs.keys.Laws.{Counted, Lately, Scans, Within}
+use Rattle.rom_run.proofs.Image.{parts}
+use Rattle.rom_parts.proofs.keys.Sets.{get_last, length_more}
+use Rattle.rom_parts.specs.timer.Frame.{Makes}
+use Rattle.rom_parts.specs.timer.Frame.Makes.{Runs, Waits, Accepts}
+use Rattle.rom_parts.proofs.timer.Frame.{accepted, case_accepts, case_waits, every_move}
 use Rattle.rom_run.specs.Time.{Spends, Timed}
 use Rattle.rom_run.specs.Running.{Interval, Running}
 use Rattle.rom_run.specs.Running.Outside.{AtRow, AtEvent}
@@ -156,7 +157,7 @@ module _ (e : Edition) (script : List Event) where
 
           up : Within (moves_to h.from v.0) 400 h.keys q.pressed.key false
           up =
-              none_stays e b h scans known.counted (moves_to h.from v.0)
+              (parts IsKeys).laws.own.none_stays e b h scans known.counted (moves_to h.from v.0)
               (all_made h.from u v.0 (length h.keys) b.cycle q.since (made q.free) v.1 (omega (arith, q.pressed.behind, late))) q.pressed.key
               q.pressed.fits
 
@@ -176,8 +177,8 @@ module _ (e : Edition) (script : List Event) where
           go : (b.cycle < w) ⊎ (w ≤ b.cycle) → Early w
           go (inl l) = now_early l
           go (inr late) = absurd (finds scans late)
-      early_by (Holds turn looks o) = key_late 1 b.key (omega arith) t.fits.key (stays_down e b h turn looks o)
-      early_by (Leaves turn looks r) = key_late 5 (r.start.regs.r.re.lo % 16) (omega arith) (omega arith) (goes_up e b h turn looks r).1
+      early_by (Holds turn looks o) = key_late 1 b.key (omega arith) t.fits.key ((parts IsKeys).laws.own.stays_down e b h turn looks o)
+      early_by (Leaves turn looks r) = key_late 5 (r.start.regs.r.re.lo % 16) (omega arith) (omega arith) ((parts IsKeys).laws.own.goes_up e b h turn looks r).1
 
       soon_by : Soon (b.cycle + 2) w × Soon (b.cycle + 1) w
       soon_by =

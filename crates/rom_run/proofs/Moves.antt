@@ -13,6 +13,7 @@ use Rattle.machine.specs.Schedule.{Tick}
 use Rattle.machine.specs.Ranges.{FitsMachine}
 use Rattle.machine.specs.Pictures.{interrupt_at, place, interrupt_place}
 use Rattle.machine.proofs.Fits.{main-fits}
+use Rattle.chip8_image.specs.declared.parts.Part.TheVariants.{Timer as IsTimer}
 use Rattle.chip8_lang.specs.declared.view.Edition.{Edition}
 use Rattle.chip8_lang.specs.declared.view.Stop.{Stop}
 use Rattle.chip8_lang.specs.Editions.{memory_end, screen_start}
@@ -45,12 +46,12 @@ use Rattle.rom_rows.specs.Rom.{image, vip}
 use Rattle.rom_rows.specs.Table.{pieces, calm_pieces, waited_pieces}
 use Rattle.rom_rows.proofs.Calm.{row_calm}
 use Rattle.rom_rows.proofs.Waited.{row_joined}
-use Rattle.rom_timer.specs.Frame.{IsOutside, IsMainPlace, Makes}
-use Rattle.rom_timer.specs.Frame.Makes.{Runs, Waits, Accepts}
-use Rattle.rom_timer.specs.Routine.{IsInterrupted, IsTick, routine_moves, routine_cycles}
-use Rattle.rom_timer.proofs.Frame.{case_accepts, case_runs, case_waits, every_move, keeps_place, keeps_waiting}
-use Rattle.rom_timer.proofs.Interval.{ticks_main, ticks_wait, ticks_served, keeps_interrupted, embeds_longer, embeds_more}
-use Rattle.rom_run.proofs.Image.{run_tick}
+use Rattle.rom_parts.specs.timer.Frame.{IsOutside, IsMainPlace, Makes}
+use Rattle.rom_parts.specs.timer.Frame.Makes.{Runs, Waits, Accepts}
+use Rattle.rom_parts.specs.timer.Routine.{IsInterrupted, IsTick, routine_moves, routine_cycles}
+use Rattle.rom_parts.proofs.timer.Frame.{case_accepts, case_runs, case_waits, every_move, keeps_place, keeps_waiting}
+use Rattle.rom_parts.proofs.timer.Interval.{ticks_main, ticks_wait, ticks_served, keeps_interrupted, embeds_longer, embeds_more}
+use Rattle.rom_run.proofs.Image.{parts}
 use Rattle.rom_run.specs.Time.{Spends, WaitsBy, wait_time, Woken, Timed, BehindWait, DueInTime, most_wait, since_return}
 use Rattle.rom_run.specs.Running.{IsBehind, Dated, Interval, Counted, Showing, Outside, Running}
 use Rattle.rom_run.specs.Running.Counted.{NoEvent, Renewed}
@@ -550,7 +551,7 @@ module _ (e : Edition) (script : List Event) where
 
   module _ (b : Machine) (h : Since) (m : ℕ) (o : Outside e script b h) (cycle : b.cycle ≡ interrupt_at m) where
     tick : IsTick e (image e) m b held
-    tick = run_tick e m b held (interrupted b h m o cycle)
+    tick = (parts IsTimer).laws.own.tick e m b held (interrupted b h m o cycle)
 
     -- so many moves on, still in the routine
     serves : (k : ℕ) → suc k < routine_moves → MovesOn (after_tick h) (after_moves (image e) held b (suc k))

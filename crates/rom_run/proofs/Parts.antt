@@ -11,7 +11,7 @@ use Rattle.rom_law.specs.Rows.{dispatched}
 use Rattle.rom_law.proofs.Kept.{row_moves}
 use Rattle.rom_rows.specs.Rom.{image, vip}
 use Rattle.rom_rows.specs.Table.{pieces}
-use Rattle.rom_fetch.specs.Laws.{Boot, boot_moves}
+use Rattle.rom_parts.specs.fetch.Laws.{Boot, boot_moves}
 use Rattle.rom_run.specs.Laws.{RowsIn, MovesIn, BootRows}
 use Rattle.rom_run.specs.Running.{Running, FromBoot}
 use Rattle.rom_run.specs.Running.FromBoot.{Boots, Begins}

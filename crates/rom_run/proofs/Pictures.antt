@@ -10,6 +10,7 @@ use Rattle.machine.specs.Run.{run_to}
 use Rattle.machine.specs.Pictures.{interrupt_at, window_end, picture_of, place, interrupt_place}
 use Rattle.machine.specs.Ranges.{FitsMachine}
 use Rattle.machine.proofs.Runs.{later-move}
+use Rattle.chip8_image.specs.declared.parts.Part.TheVariants.{Timer as IsTimer}
 use Rattle.chip8_lang.specs.declared.view.Edition.{Edition}
 use Rattle.chip8_lang.specs.Editions.{rows_of, lines_of}
 use Rattle.chip8_lang.specs.State.{Lang}
@@ -21,11 +22,11 @@ use Rattle.rom_law.proofs.Kept.{row_runs, row_cycles}
 use Rattle.rom_law.proofs.Runs.{Shown}
 use Rattle.rom_rows.specs.Rom.{image, vip}
 use Rattle.rom_rows.specs.Table.{pieces}
-use Rattle.rom_timer.specs.Frame.{IsOutside, Makes}
-use Rattle.rom_timer.specs.Frame.Makes.{Runs, Waits, Accepts}
-use Rattle.rom_timer.specs.Scan.{Pictured}
-use Rattle.rom_timer.proofs.Frame.{every_move}
-use Rattle.rom_run.proofs.Image.{run_picture}
+use Rattle.rom_parts.specs.timer.Frame.{IsOutside, Makes}
+use Rattle.rom_parts.specs.timer.Frame.Makes.{Runs, Waits, Accepts}
+use Rattle.rom_parts.specs.timer.Scan.{Pictured}
+use Rattle.rom_parts.proofs.timer.Frame.{every_move}
+use Rattle.rom_run.proofs.Image.{parts}
 use Rattle.rom_run.specs.Running.{Showing, Outside, Running}
 use Rattle.rom_run.specs.Running.Outside.{AtRow, AtEvent}
 use Rattle.rom_run.specs.Running.Running.{InMain, InRoutine}
@@ -156,7 +157,7 @@ module _ (e : Edition) (script : List Event) where
         o = r.came m (omega (arith, few_later (image e) held b, n)) u
 
         scanned : Pictured e (image e) (run_to (image e) held first limit) m (after o.i)
-        scanned = run_picture e m o.i limit held first (interrupted e script (after o.i) o.before m o.outside o.cycle) (omega (arith, n, l))
+        scanned = (parts IsTimer).laws.own.picture e m o.i limit held first (interrupted e script (after o.i) o.before m o.outside o.cycle) (omega (arith, n, l))
 
         seen : Showing e (after o.i) o.before
         seen = outside_shows e script (after o.i) o.before o.outside (omega (arith, o.cycle))

@@ -2,6 +2,7 @@
 use Rattle.std.proofs.Common.{◌≡◌, false, refl, subst}
 use Rattle.machine.specs.Board.{Machine}
 use Rattle.machine.specs.Ranges.{FitsMachine}
+use Rattle.chip8_image.specs.declared.parts.Part.TheVariants.{Fetch as IsFetch, Arith as IsArith, Memory as IsMemory, Sprite as IsSprite, Timer as IsTimer, Keys as IsKeys}
 use Rattle.chip8_lang.specs.declared.view.Edition.{Edition}
 use Rattle.rom_law.specs.Rows.{Since}
 use Rattle.rom_law.specs.Rows.Starts.{Enters}
@@ -13,43 +14,42 @@ use Rattle.rom_rows.specs.Rom.{vip, program_of}
 use Rattle.rom_rows.specs.Table.{Block, Place, Head, At, pieces, calm_pieces, IsBefore}
 use Rattle.rom_rows.specs.Table.Block.{OfFetch, OfArith, OfMemory, OfSprite, OfTimer, OfKey}
 use Rattle.rom_rows.specs.Table.Place.{AtTimer, AtKey, AtSprite}
-use Rattle.rom_rows.proofs.Calm.{comes_calm, holds_calm}
 use Rattle.rom_rows.proofs.Bytes.{both_is, both_fits, quick}
-use Rattle.rom_run.proofs.Image.{fetch_block, arith_block, memory_block, sprite_block, sprite_any, sprite_place, sprite_place_early, timer_block, timer_place, key_block, key_place}
+use Rattle.rom_run.proofs.Image.{parts}
 use Rattle.rom_run.specs.Laws.{AnySchedule}
 
 -- ---- the blocks and places before a wait
 
 pub calm_block : (e : Edition) (l : Block) → IsBefore l → (b : Machine) (h : Since) → FitsMachine b → Head (quick e) l b h
     → RunsBlock (quick e) (calm_pieces (quick e)) l b h
-calm_block e (OfFetch l) w = fetch_block e l
-calm_block e (OfArith l) w = arith_block e l
-calm_block e (OfMemory l) w = memory_block e l
-calm_block e (OfSprite l) w = sprite_block e l w
-calm_block e (OfTimer l) w = timer_block e l
-calm_block e (OfKey l) w = key_block e l
+calm_block e (OfFetch l) = (parts IsFetch).comes.early e l
+calm_block e (OfArith l) = (parts IsArith).comes.early e l
+calm_block e (OfMemory l) = (parts IsMemory).comes.early e l
+calm_block e (OfSprite l) = (parts IsSprite).comes.early e l
+calm_block e (OfTimer l) = (parts IsTimer).comes.early e l
+calm_block e (OfKey l) = (parts IsKeys).comes.early e l
 
 -- where main code runs
 pub calm_place : (e : Edition) (l : Place) (b : Machine) (h : Since) → FitsMachine b → b.regs.idle ≡ false → At (quick e) l b h
     → RunsPlace (quick e) (calm_pieces (quick e)) l b h
-calm_place e (AtTimer l) b h f i = timer_place e l b h f
-calm_place e (AtKey l) b h f i = key_place e l b h f
-calm_place e (AtSprite l) b h f i = sprite_place_early e l b h f i
+calm_place e (AtTimer l) = (parts IsTimer).comes.early_place e l
+calm_place e (AtKey l) = (parts IsKeys).comes.early_place e l
+calm_place e (AtSprite l) = (parts IsSprite).comes.early_place e l
 
 -- ---- all of them
 
 pub block : (e : Edition) (l : Block) (b : Machine) (h : Since) → FitsMachine b → Head (quick e) l b h → RunsBlock (quick e) (pieces (quick e)) l b h
-block e (OfFetch l) b h f o = comes_calm (fetch_block e l b h f o)
-block e (OfArith l) b h f o = comes_calm (arith_block e l b h f o)
-block e (OfMemory l) b h f o = comes_calm (memory_block e l b h f o)
-block e (OfSprite l) b h f o = sprite_any e l b h f o
-block e (OfTimer l) b h f o = comes_calm (timer_block e l b h f o)
-block e (OfKey l) b h f o = comes_calm (key_block e l b h f o)
+block e (OfFetch l) = (parts IsFetch).comes.any e l
+block e (OfArith l) = (parts IsArith).comes.any e l
+block e (OfMemory l) = (parts IsMemory).comes.any e l
+block e (OfSprite l) = (parts IsSprite).comes.any e l
+block e (OfTimer l) = (parts IsTimer).comes.any e l
+block e (OfKey l) = (parts IsKeys).comes.any e l
 
 place : (e : Edition) (l : Place) (b : Machine) (h : Since) → FitsMachine b → At (quick e) l b h → RunsPlace (quick e) (pieces (quick e)) l b h
-place e (AtTimer l) b h f o = holds_calm (timer_place e l b h f o)
-place e (AtKey l) b h f o = holds_calm (key_place e l b h f o)
-place e (AtSprite l) b h f o = sprite_place e l b h f o
+place e (AtTimer l) = (parts IsTimer).comes.any_place e l
+place e (AtKey l) = (parts IsKeys).comes.any_place e l
+place e (AtSprite l) = (parts IsSprite).comes.any_place e l
 
 pub proved_quick : (e : Edition) → Proved (quick e) (pieces (quick e))
 proved_quick e =

@@ -25,7 +25,7 @@ use Rattle.rom_rows.proofs.Facts.{Lies}
 use Rattle.rom_rows.proofs.PlaceFacts.{place_facts}
 use Rattle.rom_rows.proofs.Sounds.{sound}
 use Rattle.rom_rows.proofs.Table.{block_facts}
-use Rattle.rom_timer.proofs.Interval.{has_room, in_stack}
+use Rattle.rom_parts.proofs.timer.Interval.{has_room, in_stack}
 use Rattle.rom_run.proofs.Proved.{block}
 
 -- between game memory and V0, where the two bytes lie that an interrupt pushes

@@ -8,6 +8,7 @@ use Rattle.machine.specs.Ranges.{FitsMachine}
 use Rattle.machine.specs.Pictures.{windows_ended, place, interrupt_place, window_place}
 use Rattle.machine.proofs.Counts.{windows}
 use Rattle.machine.proofs.Runs.{later-move, run_to-past}
+use Rattle.chip8_image.specs.declared.parts.Part.TheVariants.{Fetch as IsFetch}
 use Rattle.chip8_lang.specs.declared.view.Edition.{Edition}
 use Rattle.chip8_lang.specs.State.{first, memory_size}
 use Rattle.chip8_lang.specs.Events.{Event as RunEvent, events_at, events_of, game_run, numbers_from, is_dispatch, is_stop, events_behind}
@@ -21,13 +22,13 @@ use Rattle.rom_law.proofs.First.{start_fits, moves_fit}
 use Rattle.rom_law.proofs.Frames.{frames_on, frames_begin}
 use Rattle.rom_law.proofs.Runs.{Carries, Boots, goes_on, boot_events, begins_so}
 use Rattle.rom_rows.specs.Rom.{image, vip}
-use Rattle.rom_fetch.specs.Laws.{Boot, boot_moves}
-use Rattle.rom_timer.specs.Frame.{IsMainPlace}
+use Rattle.rom_parts.specs.fetch.Laws.{Boot, boot_moves}
+use Rattle.rom_parts.specs.timer.Frame.{IsMainPlace}
 use Rattle.rom_run.specs.Laws.{EveryRun, FromAnyStart, BootStarts, EveryPicture, EveryPictureBehind}
 use Rattle.rom_run.specs.Running.{Running}
 use Rattle.rom_run.specs.States.{MayStart, BootsTo}
 use Rattle.rom_run.proofs.NoneDue.{UnderAny, still_there, arrived_there, known_there, none_due}
-use Rattle.rom_run.proofs.Image.{every_boot}
+use Rattle.rom_run.proofs.Image.{parts}
 use Rattle.rom_run.proofs.Keys.{KeysKnown, begins, known_on, in_time}
 use Rattle.rom_run.proofs.Moves.{board_moves, dispatch_there, renewed}
 use Rattle.rom_run.proofs.Pictures.{InRun, run_begins, run_on, shows, stops_at_window}
@@ -74,7 +75,7 @@ room e = omega (arith, memory_most e, stack_room e, stack_below e, variables_bel
 
 module _ (e : Edition) (game : List ℕ) (small : length game ≤ memory_size e) (bytes : (i : ℕ) → slice_index game i < 256) (script : List Event) where
   pub boot : Boot e (image e) (held_at script) game
-  boot = every_boot e (held_at script) game small
+  boot = (parts IsFetch).laws.own.boot e (held_at script) game small
 
   pub booted : BootsTo e game (state_after (vip e) script (start game) boot_moves)
   booted =

@@ -12,7 +12,7 @@ use Rattle.rom_law.specs.Rows.{Since}
 use Rattle.rom_law.specs.Runs.{Moves, state_after, record_after, carried}
 use Rattle.rom_law.specs.Runs.Moves.{Still, Arrived, Halted}
 use Rattle.rom_rows.specs.Rom.{vip, image}
-use Rattle.rom_timer.specs.Frame.{IsOutside}
+use Rattle.rom_parts.specs.timer.Frame.{IsOutside}
 use Rattle.rom_run.specs.Running.{Running, Interval, FromBoot}
 use Rattle.rom_run.specs.Running.Running.{InMain, InRoutine}
 use Rattle.rom_run.specs.Running.Outside.{AtRow, AtEvent}

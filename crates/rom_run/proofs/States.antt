@@ -16,8 +16,8 @@ use Rattle.rom_law.proofs.Kept.{row_runs}
 use Rattle.rom_law.proofs.States.{holds_after, holds_behind, since_dispatch}
 use Rattle.rom_rows.specs.Rom.{image, vip}
 use Rattle.rom_rows.specs.Table.{pieces}
-use Rattle.rom_fetch.specs.Laws.{boot_moves}
-use Rattle.rom_timer.proofs.Frame.{calm, case_accepts, case_runs, case_waits}
+use Rattle.rom_parts.specs.fetch.Laws.{boot_moves}
+use Rattle.rom_parts.proofs.timer.Frame.{calm, case_accepts, case_runs, case_waits}
 use Rattle.rom_run.specs.Laws.{EveryState, EveryInterrupt, NoneMissing}
 use Rattle.rom_run.specs.Running.{Running, Booting}
 use Rattle.rom_run.specs.Running.Outside.{AtRow, AtEvent}

@@ -25,7 +25,7 @@ use Rattle.rom_law.specs.Language.{Also, Begins, GoesOn, IsPast, nothing_else}
 use Rattle.rom_law.specs.Program.{Program}
 use Rattle.rom_law.specs.Runs.{state_at, state_after}
 use Rattle.rom_rows.specs.Rom.{vip}
-use Rattle.rom_fetch.specs.Laws.{boot_moves}
+use Rattle.rom_parts.specs.fetch.Laws.{boot_moves}
 use Rattle.rom_run.specs.States.{BootsTo, MayStart}
 use Rattle.rom_run.specs.Timeline.{AreShown, EveryTime, EveryTimeBehind}
 use Rattle.rom_run.proofs.Run.{booted, from_boot, every_run, from_any_start}

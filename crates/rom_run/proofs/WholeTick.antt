@@ -6,13 +6,14 @@ use Rattle.machine.specs.Keys.{Event, Keys, held_at}
 use Rattle.machine.specs.Pictures.{interrupt_at, window_end, place, interrupt_place}
 use Rattle.machine.specs.Run.{after_moves}
 use Rattle.machine.proofs.Runs.{later-move}
+use Rattle.chip8_image.specs.declared.parts.Part.TheVariants.{Timer as IsTimer}
 use Rattle.chip8_lang.specs.declared.view.Edition.{Edition}
 use Rattle.rom_law.specs.Rows.{Since, after_tick}
 use Rattle.rom_law.specs.Runs.{Moves}
 use Rattle.rom_law.proofs.Ahead.{later_cycle}
 use Rattle.rom_rows.specs.Rom.{image, vip}
-use Rattle.rom_timer.specs.Routine.{IsTick, routine_moves, routine_cycles, window_moves}
-use Rattle.rom_run.proofs.Image.{run_tick}
+use Rattle.rom_parts.specs.timer.Routine.{IsTick, routine_moves, routine_cycles, window_moves}
+use Rattle.rom_run.proofs.Image.{parts}
 use Rattle.rom_run.specs.Running.{Outside, Running, Serving}
 use Rattle.rom_run.specs.Running.Running.{InMain, InRoutine}
 use Rattle.rom_run.proofs.Moves.{interrupted, routine_comes}
@@ -26,7 +27,7 @@ module _ (e : Edition) (script : List Event) where
   held = held_at script
 
   tick_of : (b : Machine) (h : Since) (m : ℕ) → Outside e script b h → b.cycle ≡ interrupt_at m → IsTick e (image e) m b held
-  tick_of b h m o i = run_tick e m b held (interrupted e script b h m o i)
+  tick_of b h m o i = (parts IsTimer).laws.own.tick e m b held (interrupted e script b h m o i)
 
   -- where the cycle is that of an interrupt, main code runs or waits
   pub main_there : (b : Machine) (h : Since) → Running e script b h → place b.cycle ≡ interrupt_place → Outside e script b h

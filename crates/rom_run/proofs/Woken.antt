@@ -32,7 +32,7 @@ use Rattle.rom_rows.specs.Table.Place.{AtTimer, AtKey, AtSprite}
 use Rattle.rom_rows.proofs.Later.{before_ticks}
 use Rattle.rom_rows.proofs.Steps.{stop_ticks}
 use Rattle.rom_rows.proofs.Most.{draw_most}
-use Rattle.rom_timer.specs.Routine.{routine_cycles}
+use Rattle.rom_parts.specs.timer.Routine.{routine_cycles}
 use Rattle.rom_run.specs.Running.{IsBehind, Interval}
 use Rattle.rom_run.specs.Time.{Spends, WaitsBy, Woken, Timed, wait_time, since_return, since_window, most_changing}
 use Rattle.rom_run.specs.Time.Timed.{Before, Waiting, Behind}

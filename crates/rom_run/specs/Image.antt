@@ -10,12 +10,17 @@ use Rattle.chip8_image.specs.Parts.{is_part, addresses_from, addresses_of}
 use Rattle.chip8_lang.specs.declared.view.Edition.{Edition}
 use Rattle.chip8_lang.specs.State.{font}
 use Rattle.rom_rows.specs.Rom.{Stretch, stretch, laid, image}
-use Rattle.rom_fetch.specs.Code.{fetch_code}
-use Rattle.rom_arith.specs.Code.{arith_code}
-use Rattle.rom_memory.specs.Code.{memory_code}
-use Rattle.rom_sprite.specs.Code.{sprite_code}
-use Rattle.rom_timer.specs.Code.{timer_code}
-use Rattle.rom_keys.specs.Code.{keys_code}
+use Rattle.rom_parts.specs.Parts.{PartLaws}
+use Rattle.rom_parts.specs.fetch.Code.{fetch_code}
+use Rattle.rom_parts.specs.arith.Code.{arith_code}
+use Rattle.rom_parts.specs.memory.Code.{memory_code}
+use Rattle.rom_parts.specs.sprite.Code.{sprite_code}
+use Rattle.rom_parts.specs.timer.Code.{timer_code}
+use Rattle.rom_parts.specs.keys.Code.{keys_code}
+
+-- what is proved of each part, of the image
+abbrev pub EveryPart : Type 0
+EveryPart = (p : Part) → PartLaws p image
 
 -- the bytes of a part; of what is no code, the dispatch table is among those of the fetch, and the font is left
 abbrev pub code_of : Edition → Part → List Stretch

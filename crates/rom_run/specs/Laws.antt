@@ -22,7 +22,7 @@ use Rattle.rom_law.specs.Rows.{Since, Row, Outcome, after_main}
 use Rattle.rom_law.specs.Schedules.{EverySchedule}
 use Rattle.rom_rows.specs.Rom.{image, vip}
 use Rattle.rom_rows.specs.Table.{pieces}
-use Rattle.rom_fetch.specs.Laws.{boot_moves}
+use Rattle.rom_parts.specs.fetch.Laws.{boot_moves}
 use Rattle.rom_run.specs.Display.{Display, WritesScreen, SameInterval, AtDisplay, Changes}
 use Rattle.rom_run.specs.Running.{Running, Booting, FromBoot, Showing}
 use Rattle.rom_run.specs.Time.{since_return, most_changing}

@@ -21,9 +21,9 @@ use Rattle.rom_law.specs.Rows.{Since, Row, Stepped, Stopped, after_tick, dispatc
 use Rattle.rom_law.specs.Runs.{Covers}
 use Rattle.rom_rows.specs.Rom.{image, vip}
 use Rattle.rom_rows.specs.Table.{pieces}
-use Rattle.rom_fetch.specs.Laws.{boot_moves}
-use Rattle.rom_timer.specs.Frame.{IsOutside, IsMainPlace}
-use Rattle.rom_timer.specs.Routine.{routine_moves}
+use Rattle.rom_parts.specs.fetch.Laws.{boot_moves}
+use Rattle.rom_parts.specs.timer.Frame.{IsOutside, IsMainPlace}
+use Rattle.rom_parts.specs.timer.Routine.{routine_moves}
 use Rattle.rom_run.specs.Time.{since_return, Timed, DueInTime}
 
 -- Behind an interrupt of the interval main code runs where its routine has returned, up to the next one's cycle; and an instruction is made before it

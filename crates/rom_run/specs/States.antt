@@ -11,7 +11,7 @@ use Rattle.chip8_lang.specs.State.{first, memory_size}
 use Rattle.rom_law.specs.Program.{Program, Dispatches}
 use Rattle.rom_law.specs.Runs.{state_at, state_after, record_after}
 use Rattle.rom_rows.specs.Rom.{vip}
-use Rattle.rom_fetch.specs.Laws.{boot_moves}
+use Rattle.rom_parts.specs.fetch.Laws.{boot_moves}
 use Rattle.rom_run.specs.Running.{Running, Booting}
 
 -- ---- where a run may begin

@@ -1,15 +1,6 @@
 //! What is proved of the whole interpreter's ROM, each law the contract of a function without parameters.
 
-ghost use Rattle.rom_rows.specs.Rom.{image};
-ghost use Rattle.rom_fetch.specs.Laws.{FetchRows, FetchAddresses, DispatchTime, EveryBoot};
-ghost use Rattle.rom_arith.specs.Laws.{ArithRows, ArithAddresses};
-ghost use Rattle.rom_memory.specs.Laws.{MemoryRows, MemoryAddresses};
-ghost use Rattle.rom_sprite.specs.Laws.{SpriteRows, SpritePlaceRows, SpriteTicks, SpriteAddresses, SpritePlaceAddresses};
-ghost use Rattle.rom_timer.specs.Laws.{TimerRows, TimerPlaceRows, TimerAddresses, TimerPlaceAddresses};
-ghost use Rattle.rom_timer.specs.Routine.{RunTick};
-ghost use Rattle.rom_timer.specs.Scan.{RunScan, RunPicture};
-ghost use Rattle.rom_keys.specs.Laws.{KeyRows, KeyPlaceRows, KeyAddresses, KeyPlaceAddresses, NoneStays, StaysDown, GoesUp};
-ghost use Rattle.rom_run.specs.Image.{ImageOfParts};
+ghost use Rattle.rom_run.specs.Image.{EveryPart, ImageOfParts};
 ghost use Rattle.rom_run.specs.Laws.{AnySchedule, MainRows, Timely, Undisturbed, WaitsSoon, WritesSoon, ChangesSoon};
 ghost use Rattle.rom_run.specs.Timeline.{EveryTime, EveryTimeBehind};
 ghost use Rattle.rom_run.specs.Laws.{BootStarts, EveryRun, FromAnyStart, EveryPicture, EveryPictureBehind, EveryState, EveryInterrupt, NoneMissing};
@@ -106,36 +97,10 @@ pub fn changes_soon()
     ensures { ChangesSoon }
 {}
 
-/// Of the image of each edition, what the crates of the six parts prove of the bytes that stand there: the rows and the addresses of their
-/// blocks and places, boot, the time of the dispatch, the interrupt routine with its scan and its picture, and the sets of keys of FX0A.
+/// Of the image of each edition, what `rom_parts` proves of the bytes of each part that stand there: the rows and the addresses of its blocks and
+/// places, boot, the time of the dispatch, the interrupt routine with its scan and its picture, and the sets of keys of FX0A.
 pub fn every_part()
-    ensures fetch_rows { FetchRows image }
-    ensures fetch_addresses { FetchAddresses image }
-    ensures dispatch_time { DispatchTime image }
-    ensures every_boot { EveryBoot image }
-    ensures arith_rows { ArithRows image }
-    ensures arith_addresses { ArithAddresses image }
-    ensures memory_rows { MemoryRows image }
-    ensures memory_addresses { MemoryAddresses image }
-    ensures sprite_rows { SpriteRows image }
-    ensures sprite_place_rows { SpritePlaceRows image }
-    ensures sprite_ticks { SpriteTicks image }
-    ensures sprite_addresses { SpriteAddresses image }
-    ensures sprite_place_addresses { SpritePlaceAddresses image }
-    ensures timer_rows { TimerRows image }
-    ensures timer_place_rows { TimerPlaceRows image }
-    ensures timer_addresses { TimerAddresses image }
-    ensures timer_place_addresses { TimerPlaceAddresses image }
-    ensures run_tick { RunTick image }
-    ensures run_scan { RunScan image }
-    ensures run_picture { RunPicture image }
-    ensures key_rows { KeyRows image }
-    ensures key_place_rows { KeyPlaceRows image }
-    ensures key_addresses { KeyAddresses image }
-    ensures key_place_addresses { KeyPlaceAddresses image }
-    ensures none_stays { NoneStays image }
-    ensures stays_down { StaysDown image }
-    ensures goes_up { GoesUp image }
+    ensures { EveryPart }
 {}
 
 /// The image of each edition is the bytes of the six parts and of the font, laid over zeros, and the bytes of each part have exactly the

@@ -1,5 +1,0 @@
-use Rattle.rom_arith.proofs.Law.{arith_covered}
-use Rattle.rom_arith.proofs.laws.covers.Goals as goal
-
-pub returns : goal.returns
-returns c = arith_covered

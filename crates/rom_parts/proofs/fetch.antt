@@ -1,0 +1,9 @@
+pub mod Fetch
+pub mod Dispatch
+pub mod Stops
+pub mod Misc
+pub mod Boot
+pub mod Blocks
+pub mod Time
+pub mod Addresses
+pub mod Laws

@@ -1,0 +1,10 @@
+pub mod Index
+pub mod Check
+pub mod Found
+pub mod Digits
+pub mod Decimal
+pub mod Lists
+pub mod Copies
+pub mod Blocks
+pub mod Addresses
+pub mod Laws

@@ -1,0 +1,13 @@
+pub mod Screen
+pub mod Waits
+pub mod Clear
+pub mod Bits
+pub mod Bytes
+pub mod Dots
+pub mod Aim
+pub mod Prepare
+pub mod Pixels
+pub mod Paint
+pub mod Blocks
+pub mod Addresses
+pub mod Laws

@@ -1,0 +1,16 @@
+pub mod Timers
+pub mod Randoms
+pub mod Blocks
+pub mod Addresses
+pub mod Frame
+pub mod Board
+pub mod Window
+pub mod Pushed
+pub mod Serving
+pub mod Tick
+pub mod Fetched
+pub mod Counted
+pub mod Scan
+pub mod Picture
+pub mod Interval
+pub mod Laws
