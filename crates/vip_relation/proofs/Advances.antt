@@ -1,5 +1,5 @@
 -- A run, from a call's entry on: moves alone, up to the next event or the limit.
-use Rattle.std.proofs.Common.{◌≡◌, inr, ℕ, ◌+◌, ◌-◌, ◌<◌, ◌≤◌, Bool, true, false, List, [], ◌∷◌, ◌++◌, length, drop, refl, sym, ap, ◌∙◌, subst, subst₂, arith, Some}
+use Rattle.std.proofs.Common.{◌≡◌, inl, inr, ℕ, ◌+◌, ◌-◌, ◌<◌, ◌≤◌, Bool, true, false, List, [], ◌∷◌, ◌++◌, length, drop, refl, sym, ap, ◌∙◌, subst, subst₂, arith, Some}
 use Rattle.machine.specs.Board.{length_of}
 use Rattle.machine.specs.Instruction.{Regs}
 use Rattle.machine.specs.Keys.{Event as KeyEvent, held_at}
@@ -190,6 +190,15 @@ no-stop v met goes_on = by_test (is_stop (interpreter v) v.board.machine) refl
 -- where the events that wait are met, the board rests as before
 pub rests-met : (limit : ℕ) (u v : VipState) → MeetsAll u v → limit < v.board.machine.cycle + length_of v.board.rom v.board.machine → Rests limit u
 rests-met limit u v all over = inr (subst (λ (b : Seen). limit < b.machine.cycle + length_of b.rom b.machine) all.board over)
+
+-- and where it doesn't rest it is at no stop point
+pub runs-met : (limit : ℕ) (u v : VipState) → MeetsAll u v → (Rests limit u → ⊥) → is_stop (interpreter v) v.board.machine ≡ false
+runs-met limit u v all goes_on =
+    subst₂ (λ e b. is_stop (interpreter_of e) b.machine ≡ false) (sym all.edition) (sym all.board) (by_test (is_stop (interpreter u) u.board.machine) refl)
+  where
+    by_test : (t : Bool) → is_stop (interpreter u) u.board.machine ≡ t → is_stop (interpreter u) u.board.machine ≡ false
+    by_test false h = h
+    by_test true h = absurd (goes_on (inl h))
 
 -- a move with all events met before it and after it
 pub moves-on : (u v w x : VipState) (name : Move) → MeetsAll u v → Steps v w name → MeetsAll w x → Follows x → MovesOn u x name

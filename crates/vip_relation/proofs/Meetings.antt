@@ -90,14 +90,20 @@ is-stop true dispatch is = refl
 is-stop false true is = cc
 is-stop false false is = cc
 
+-- one that isn't
+pub no-stop-point : (stop dispatch : Bool) (point : Point) → point ≡ (if stop then StopPoint else if dispatch then DispatchPoint else OtherPoint)
+    → (point ≡ StopPoint → ⊥) → stop ≡ false
+no-stop-point true dispatch point is other = absurd (other is)
+no-stop-point false dispatch point is other = refl
+
 pub runs-on : (stop dispatch : Bool) → DispatchPoint ≡ (if stop then StopPoint else if dispatch then DispatchPoint else OtherPoint) → stop ≡ false
 runs-on true dispatch is = cc
 runs-on false dispatch is = refl
 
-stop_waits : (stop dispatch : Bool) (b : Machine) → stop ≡ true
+pub stop-waits : (stop dispatch : Bool) (b : Machine) → stop ≡ true
     → point_events (if stop then StopPoint else if dispatch then DispatchPoint else OtherPoint) b ≡ [] → ⊥
-stop_waits true dispatch b stop none = cc
-stop_waits false dispatch b stop none = cc
+stop-waits true dispatch b stop none = cc
+stop-waits false dispatch b stop none = cc
 
 not_both : (b : Bool) → b ≡ false → b ≡ true → ⊥
 not_both b h g = cc
@@ -194,7 +200,7 @@ module _ (v : VipState) (f : Follows v) (point : Point) (p : PictureWaits v poin
 
   goes_on : point ≡ point_of (interpreter v) v.board.machine → HasStopped (told v v.last v.shown) → ⊥
   goes_on is stopped =
-      stop_waits (is_stop (interpreter v) v.board.machine) (is_dispatch (interpreter v) v.board.machine) v.board.machine stopped.stop
+      stop-waits (is_stop (interpreter v) v.board.machine) (is_dispatch (interpreter v) v.board.machine) v.board.machine stopped.stop
       (ap (λ p. point_events p v.board.machine) (sym is) ∙ sym (waiting-less v f (Picture p.frame) es p.events v.last v.shown) ∙ stopped.met)
 
   pub meets-picture : point ≡ point_of (interpreter v) v.board.machine → MeetsFirst v (told v v.last v.shown) PictureMet

@@ -12,7 +12,7 @@ use Rattle.vip_board.specs.Moves.{IfDone}
 use Rattle.vip_board.specs.declared.board.Moved.{Moved}
 use Rattle.vip_board.specs.declared.board.Moved.TheVariants.{Done, End}
 use Rattle.vip_relation.specs.Parts.{Runs, Steps}
-use Rattle.vip_relation.specs.Told.{Tells}
+use Rattle.vip_relation.specs.Told.{KeepsLast}
 use Rattle.vip_relation.specs.declared.run.Met.{Met}
 use Rattle.vip_relation.specs.declared.run.Met.TheVariants as met
 use Rattle.vip_relation.specs.declared.vip.Vip.TheInside.{Inside}
@@ -82,7 +82,7 @@ runs-on v w again stopped = differ _ (again stopped).stop
 
 -- ---- the fields
 
-pub tells-same : (a : Inside) → Tells a → (w : VipState) → Follows w → StaysTold a.run w → Tells (record a { run = w })
+pub tells-same : (a : Inside) → KeepsLast a → (w : VipState) → Follows w → StaysTold a.run w → KeepsLast (record a { run = w })
 tells-same a t w follows s =
     record {
       follows = follows;
@@ -94,7 +94,7 @@ tells-same a t w follows s =
 -- at a dispatch point what is kept was read off the board
 pub tells-here : (limit : ℕ) (v : VipState) (a : Inside) → Follows a.run → MeetsNext limit v a.run (events_left v limit) met.Dispatch
     → option_map seen a.last ≡ Some (view_at a.run.edition a.run.board.machine) → a.shown.items ≡ screen_bytes a.run.edition a.run.board.machine
-    → length a.shown.items ≡ screen_size a.run.edition → Tells a
+    → length a.shown.items ≡ screen_size a.run.edition → KeepsLast a
 tells-here limit v a follows next last shown size =
     let d = at_dispatch limit v a.run (events_left v limit) next in
     record {
@@ -107,9 +107,9 @@ tells-here limit v a follows next last shown size =
     }
 
 -- a move, which meets nothing
-pub tells-moved : (a : Inside) → Tells a → (w : VipState) (moved : Moved) → Follows w → (moved ≡ End → w ≡ a.run) → IfDone moved (λ name. Steps a.run w name)
-    → Tells (record a { run = w })
-tells-moved a t w End follows rests made = subst (λ v. Tells (record a { run = v })) (sym (rests refl)) t
+pub tells-moved : (a : Inside) → KeepsLast a → (w : VipState) (moved : Moved) → Follows w → (moved ≡ End → w ≡ a.run) → IfDone moved (λ name. Steps a.run w name)
+    → KeepsLast (record a { run = w })
+tells-moved a t w End follows rests made = subst (λ v. KeepsLast (record a { run = v })) (sym (rests refl)) t
 tells-moved a t w (Done name) follows rests made =
     tells-same a t w follows
     (record {
@@ -123,9 +123,9 @@ tells-moved a t w (Done name) follows rests made =
     })
 
 -- moves up to an event, which meet nothing either
-pub tells-run : (a : Inside) → Tells a → (limit : ℕ) (w : VipState) (n : ℕ) → Follows w → (n ≡ 0 → w ≡ a.run) → (0 < n → Runs limit a.run w)
-    → Tells (record a { run = w })
-tells-run a t limit w zero follows rests runs = subst (λ v. Tells (record a { run = v })) (sym (rests refl)) t
+pub tells-run : (a : Inside) → KeepsLast a → (limit : ℕ) (w : VipState) (n : ℕ) → Follows w → (n ≡ 0 → w ≡ a.run) → (0 < n → Runs limit a.run w)
+    → KeepsLast (record a { run = w })
+tells-run a t limit w zero follows rests runs = subst (λ v. KeepsLast (record a { run = v })) (sym (rests refl)) t
 tells-run a t limit w (suc n) follows rests runs =
     let run = runs (omega arith) in
     tells-same a t w follows

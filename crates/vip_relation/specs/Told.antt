@@ -10,7 +10,7 @@ abbrev pub vip_of : Inside → VipState
 vip_of a = a.run
 
 -- the state and the screen that are kept are those of the run
-pub record Tells (a : Inside) : Type 0 where
+pub record KeepsLast (a : Inside) : Type 0 where
   pub follows : Follows a.run
   pub last : option_map seen a.last ≡ a.run.last
   pub shown : a.shown.items ≡ a.run.shown

@@ -28,11 +28,11 @@ impl Model for Vip {
 
     ghost Value = { VipState };
 
-    ghost use Rattle.vip_relation.specs.Told.{vip_of, Tells};
+    ghost use Rattle.vip_relation.specs.Told.{vip_of, KeepsLast};
 
     ghost view = { vip_of };
 
-    ghost invariant = { Tells };
+    ghost invariant = { KeepsLast };
 }
 
 impl Vip {

@@ -14,7 +14,7 @@ use Rattle.vip_show.specs.declared.counts.Counts.{Counts}
 use Rattle.vip_show.specs.declared.counts.Place.{Place}
 use Rattle.vip_show.specs.declared.figures.Figures.{Figures}
 use Rattle.vip_show.specs.declared.frames.Frames.{Frames}
-use Rattle.vip_show.specs.Counts.{addresses, Awaits, Counted, place_of, Tells}
+use Rattle.vip_show.specs.Counts.{addresses, Awaits, Counted, place_of, HasValues}
 use Rattle.vip_show.specs.Figures.{figures_of, HasRoom, most_number}
 use Rattle.vip_show.specs.Frames.{frame_behind, Framed, IsFew, CountsPoint, most_points}
 use Rattle.vip_show.specs.Profile.{Step, cycle_in, cycles_at, cycles_of, first_cycle, last_cycle, opcode_at, steps_of}
@@ -22,7 +22,7 @@ use Rattle.vip_show.specs.Profile.{Step, cycle_in, cycles_at, cycles_of, first_c
 -- ---- no point
 
 pub table-first : {X : Type 0} (items : List X) (value : X) (values : ℕ → X) → items ≡ replicate addresses value → ((pc : ℕ) → value ≡ values pc)
-    → Tells items values
+    → HasValues items values
 table-first items value values is same pc other below =
     ap (λ xs. slice_index_or xs pc other) is ∙ get_or-replicate addresses pc value other below ∙ same pc
 
@@ -61,8 +61,8 @@ module _ (last : View) where
 -- ---- the tables
 
 -- a table in which one value was changed
-pub table-set : {X : Type 0} (items : List X) (at : ℕ) (value : X) (old new : ℕ → X) → length items ≡ addresses → at < addresses → Tells items old
-    → value ≡ new at → ((pc : ℕ) → (pc ≡ at → ⊥) → old pc ≡ new pc) → Tells (slice_set items at value) new
+pub table-set : {X : Type 0} (items : List X) (at : ℕ) (value : X) (old new : ℕ → X) → length items ≡ addresses → at < addresses → HasValues items old
+    → value ≡ new at → ((pc : ℕ) → (pc ≡ at → ⊥) → old pc ≡ new pc) → HasValues (slice_set items at value) new
 table-set items at value old new size within tells same others pc other below = go (cases_eq pc at)
   where
     go : (pc ≡ at) ⊎ (pc ≡ at → ⊥) → slice_index_or (slice_set items at value) pc other ≡ new pc

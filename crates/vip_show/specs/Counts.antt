@@ -20,16 +20,16 @@ abbrev pub addresses : ℕ
 addresses = 0x10000
 
 -- a table has these values, address by address
-abbrev pub Tells : {X : Type 0} → List X → (ℕ → X) → Type 0
-Tells {X} items value = (pc : ℕ) (other : X) → pc < addresses → slice_index_or items pc other ≡ value pc
+abbrev pub HasValues : {X : Type 0} → List X → (ℕ → X) → Type 0
+HasValues {X} items value = (pc : ℕ) (other : X) → pc < addresses → slice_index_or items pc other ≡ value pc
 
 abbrev pub place_of : View → Place
 place_of view = record { pc = view.pc; cycle = view.cycle }
 
 -- the counts are those of these points
 pub record Counted (counts : Counts) (views : List View) : Type 0 where
-  pub steps : Tells counts.steps.items (λ pc. figures_of (cycles_at views pc))
-  pub opcodes : Tells counts.opcodes.items (opcode_at views)
+  pub steps : HasValues counts.steps.items (λ pc. figures_of (cycles_at views pc))
+  pub opcodes : HasValues counts.opcodes.items (opcode_at views)
   pub count : counts.count ≡ length (steps_of views)
   pub first : counts.first ≡ first_cycle views
   pub last : counts.last ≡ option_map place_of (last_or None views)

@@ -19,7 +19,7 @@ fn count_of(lit: bool) -> u64
     ensures value { result ≡ (if lit then 1 else 0) }
     ensures few { result ≤ 1 }
 {
-    u64::from(lit)
+    if lit { 1 } else { 0 }
 }
 
 /// How many pixels of row y of a screen are lit.
