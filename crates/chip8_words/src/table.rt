@@ -148,95 +148,76 @@ pub static FORMS: [Form; 35] = [
     Form::Fetch,
 ];
 
-/// A row of the table.
-#[derive(Clone, Copy)]
-struct Row {
-    /// In capitals.
-    mnemonic: &'static str,
-    /// The opcode whose fields are all 0.
-    opcode: u16,
-    /// In the order in which they are written.
-    operands: &'static [Operand],
-}
+/// A row of the table: a mnemonic in capitals, the opcode whose fields are all 0, and the operands in the order in which they are written.
+type Row = (&'static str, u16, &'static [Operand]);
 
-impl Row {
-    fn new(mnemonic: &'static str, opcode: u16, operands: &'static [Operand]) -> Row
-        ensures mnemonic { result.mnemonic.now ≡ mnemonic.now }
-        ensures opcode { result.opcode ≡ opcode }
-        ensures operands { result.operands.now ≡ operands.now }
-    {
-        Row {
-            mnemonic,
-            opcode,
-            operands,
-        }
-    }
-}
+/// The rows, in the order of the forms.
+static ROWS: [Row; 35] = [
+    ("CLS", 0x00E0, &[]),
+    ("RET", 0x00EE, &[]),
+    ("SYS", 0x0000, &[Operand::Address]),
+    ("JP", 0x1000, &[Operand::Address]),
+    ("CALL", 0x2000, &[Operand::Address]),
+    ("SE", 0x3000, &[Operand::X, Operand::Byte]),
+    ("SNE", 0x4000, &[Operand::X, Operand::Byte]),
+    ("SE", 0x5000, &[Operand::X, Operand::Y]),
+    ("LD", 0x6000, &[Operand::X, Operand::Byte]),
+    ("ADD", 0x7000, &[Operand::X, Operand::Byte]),
+    ("LD", 0x8000, &[Operand::X, Operand::Y]),
+    ("OR", 0x8001, &[Operand::X, Operand::Y]),
+    ("AND", 0x8002, &[Operand::X, Operand::Y]),
+    ("XOR", 0x8003, &[Operand::X, Operand::Y]),
+    ("ADD", 0x8004, &[Operand::X, Operand::Y]),
+    ("SUB", 0x8005, &[Operand::X, Operand::Y]),
+    ("SHR", 0x8006, &[Operand::X, Operand::Y]),
+    ("SUBN", 0x8007, &[Operand::X, Operand::Y]),
+    ("SHL", 0x800E, &[Operand::X, Operand::Y]),
+    ("SNE", 0x9000, &[Operand::X, Operand::Y]),
+    ("LD", 0xA000, &[Operand::Index, Operand::Address]),
+    ("JP", 0xB000, &[Operand::V0, Operand::Address]),
+    ("RND", 0xC000, &[Operand::X, Operand::Byte]),
+    ("DRW", 0xD000, &[Operand::X, Operand::Y, Operand::Nibble]),
+    ("SKP", 0xE09E, &[Operand::X]),
+    ("SKNP", 0xE0A1, &[Operand::X]),
+    ("LD", 0xF007, &[Operand::X, Operand::DelayTimer]),
+    ("LD", 0xF00A, &[Operand::X, Operand::Key]),
+    ("LD", 0xF015, &[Operand::DelayTimer, Operand::X]),
+    ("LD", 0xF018, &[Operand::SoundTimer, Operand::X]),
+    ("ADD", 0xF01E, &[Operand::Index, Operand::X]),
+    ("LD", 0xF029, &[Operand::Font, Operand::X]),
+    ("LD", 0xF033, &[Operand::Decimal, Operand::X]),
+    ("LD", 0xF055, &[Operand::AtIndex, Operand::X]),
+    ("LD", 0xF065, &[Operand::X, Operand::AtIndex]),
+];
 
 impl Form {
     /// The row of a form.
     fn row(self) -> Row
-        ensures mnemonic { result.mnemonic.now ≡ mnemonic_of self }
-        ensures opcode { result.opcode ≡ opcode_of self }
-        ensures operands { result.operands.now ≡ operands_of self }
+        ensures mnemonic { result.0.now ≡ mnemonic_of self }
+        ensures opcode { result.1 ≡ opcode_of self }
+        ensures operands { result.2.now ≡ operands_of self }
     {
-        match self {
-            Form::Clear => Row::new("CLS", 0x00E0, &[]),
-            Form::Return => Row::new("RET", 0x00EE, &[]),
-            Form::Machine => Row::new("SYS", 0x0000, &[Operand::Address]),
-            Form::Jump => Row::new("JP", 0x1000, &[Operand::Address]),
-            Form::Call => Row::new("CALL", 0x2000, &[Operand::Address]),
-            Form::SkipEq => Row::new("SE", 0x3000, &[Operand::X, Operand::Byte]),
-            Form::SkipNe => Row::new("SNE", 0x4000, &[Operand::X, Operand::Byte]),
-            Form::SkipSame => Row::new("SE", 0x5000, &[Operand::X, Operand::Y]),
-            Form::Load => Row::new("LD", 0x6000, &[Operand::X, Operand::Byte]),
-            Form::Add => Row::new("ADD", 0x7000, &[Operand::X, Operand::Byte]),
-            Form::Copy => Row::new("LD", 0x8000, &[Operand::X, Operand::Y]),
-            Form::Or => Row::new("OR", 0x8001, &[Operand::X, Operand::Y]),
-            Form::And => Row::new("AND", 0x8002, &[Operand::X, Operand::Y]),
-            Form::Xor => Row::new("XOR", 0x8003, &[Operand::X, Operand::Y]),
-            Form::Sum => Row::new("ADD", 0x8004, &[Operand::X, Operand::Y]),
-            Form::Sub => Row::new("SUB", 0x8005, &[Operand::X, Operand::Y]),
-            Form::Right => Row::new("SHR", 0x8006, &[Operand::X, Operand::Y]),
-            Form::SubN => Row::new("SUBN", 0x8007, &[Operand::X, Operand::Y]),
-            Form::Left => Row::new("SHL", 0x800E, &[Operand::X, Operand::Y]),
-            Form::SkipDiffer => Row::new("SNE", 0x9000, &[Operand::X, Operand::Y]),
-            Form::Index => Row::new("LD", 0xA000, &[Operand::Index, Operand::Address]),
-            Form::JumpPlus => Row::new("JP", 0xB000, &[Operand::V0, Operand::Address]),
-            Form::Random => Row::new("RND", 0xC000, &[Operand::X, Operand::Byte]),
-            Form::Draw => Row::new("DRW", 0xD000, &[Operand::X, Operand::Y, Operand::Nibble]),
-            Form::SkipDown => Row::new("SKP", 0xE09E, &[Operand::X]),
-            Form::SkipUp => Row::new("SKNP", 0xE0A1, &[Operand::X]),
-            Form::GetDelay => Row::new("LD", 0xF007, &[Operand::X, Operand::DelayTimer]),
-            Form::WaitKey => Row::new("LD", 0xF00A, &[Operand::X, Operand::Key]),
-            Form::SetDelay => Row::new("LD", 0xF015, &[Operand::DelayTimer, Operand::X]),
-            Form::SetSound => Row::new("LD", 0xF018, &[Operand::SoundTimer, Operand::X]),
-            Form::AddIndex => Row::new("ADD", 0xF01E, &[Operand::Index, Operand::X]),
-            Form::Font => Row::new("LD", 0xF029, &[Operand::Font, Operand::X]),
-            Form::Decimal => Row::new("LD", 0xF033, &[Operand::Decimal, Operand::X]),
-            Form::Store => Row::new("LD", 0xF055, &[Operand::AtIndex, Operand::X]),
-            Form::Fetch => Row::new("LD", 0xF065, &[Operand::X, Operand::AtIndex]),
-        }
+        ROWS[self as usize]
     }
 
     /// The mnemonic, in capitals.
     pub fn mnemonic(self) -> &'static str
         ensures { result.now ≡ mnemonic_of self }
     {
-        self.row().mnemonic
+        self.row().0
     }
 
     /// The opcode whose fields are all 0.
     pub fn opcode(self) -> u16
         ensures { result ≡ opcode_of self }
     {
-        self.row().opcode
+        self.row().1
     }
 
     /// The operands, in the order in which they are written.
     pub fn operands(self) -> &'static [Operand]
         ensures { result.now ≡ operands_of self }
     {
-        self.row().operands
+        self.row().2
     }
 }

@@ -1,6 +1,7 @@
 //! The text of an opcode in words.
 
-ghost use Rattle.std.specs.Prelude.{◌≡◌, ◌+◌, ◌≤◌, ◌<◌, ◌++◌, length};
+ghost use Rattle.std.specs.Prelude.{◌≡◌, ◌+◌, ◌-◌, ◌≤◌, ◌++◌, length, drop};
+ghost use Rattle.vip_byte.specs.HexText.{hex4};
 ghost use Rattle.arrayvec.specs.ArrayVec.{array_vec_len};
 ghost use Rattle.chip8_words.specs.Codes.{IsValid};
 ghost use Rattle.chip8_words.specs.Words.{HasItsDigits, op_text, opcode_words, operand_text, text_size};
@@ -8,7 +9,7 @@ ghost use Rattle.chip8_words.specs.Words.{HasItsDigits, op_text, opcode_words, o
 use crate::code::{Op, decode};
 use crate::table::Operand;
 use arrayvec::ArrayVec;
-use vip_byte::{hex2, hex4};
+use vip_byte::hex4;
 
 /// The most characters of an opcode in words, as in `DRW V0, V1, 0x5`.
 const MOST_TEXT: usize = 15;
@@ -25,6 +26,30 @@ fn put(into: &mut OpcodeWords, bytes: &[u8])
     let _ = into.try_extend_from_slice(bytes);
 }
 
+/// What is written of an operand: a word, and behind it so many of the four digits of a number.
+fn operand_parts(op: &Op, operand: Operand) -> (&'static str, u16, usize)
+    requires { HasItsDigits op.now operand }
+    ensures text { operand_text op.now operand ≡ result.0.now ++ drop (4 - result.2) (hex4 result.1) }
+    ensures size { text_size operand ≡ length result.0.now + result.2 }
+    ensures digits { result.2 ≤ 4 }
+{
+    match operand {
+        Operand::X => ("V", u16::from(op.x), 1),
+        Operand::Y => ("V", u16::from(op.y), 1),
+        Operand::V0 => ("V0", 0, 0),
+        Operand::Byte => ("0x", op.number, 2),
+        Operand::Address => ("0x", op.number, 4),
+        Operand::Nibble => ("0x", op.number, 1),
+        Operand::Index => ("I", 0, 0),
+        Operand::AtIndex => ("[I]", 0, 0),
+        Operand::DelayTimer => ("DT", 0, 0),
+        Operand::SoundTimer => ("ST", 0, 0),
+        Operand::Key => ("K", 0, 0),
+        Operand::Font => ("F", 0, 0),
+        Operand::Decimal => ("B", 0, 0),
+    }
+}
+
 /// Appends an operand.
 fn put_operand(into: &mut OpcodeWords, op: &Op, operand: Operand)
     requires digits { HasItsDigits op.now operand }
@@ -32,36 +57,9 @@ fn put_operand(into: &mut OpcodeWords, op: &Op, operand: Operand)
     ensures items { into.new.items ≡ into.old.items ++ operand_text op.now operand }
     ensures len { array_vec_len into.new ≡ array_vec_len into.old + text_size operand }
 {
-    match operand {
-        Operand::X => {
-            put(into, b"V");
-            put(into, &hex2(op.x)[1..]);
-        }
-        Operand::Y => {
-            put(into, b"V");
-            put(into, &hex2(op.y)[1..]);
-        }
-        Operand::V0 => put(into, b"V0"),
-        Operand::Byte => {
-            put(into, b"0x");
-            put(into, &hex4(op.number)[2..]);
-        }
-        Operand::Address => {
-            put(into, b"0x");
-            put(into, &hex4(op.number));
-        }
-        Operand::Nibble => {
-            put(into, b"0x");
-            put(into, &hex4(op.number)[3..]);
-        }
-        Operand::Index => put(into, b"I"),
-        Operand::AtIndex => put(into, b"[I]"),
-        Operand::DelayTimer => put(into, b"DT"),
-        Operand::SoundTimer => put(into, b"ST"),
-        Operand::Key => put(into, b"K"),
-        Operand::Font => put(into, b"F"),
-        Operand::Decimal => put(into, b"B"),
-    }
+    let (word, number, digits) = operand_parts(op, operand);
+    put(into, word.as_bytes());
+    put(into, &hex4(number)[4 - digits..]);
 }
 
 /// Appends the mnemonic and the operands of an opcode.
