@@ -1,97 +1,9 @@
-//! The row of each kind: its opcode, its operands, the numbers that it can have, its size and its mnemonic.
+//! The row of each kind: its opcode, its mnemonic and its operands, and by these the numbers that it can have and its size.
 
 ghost use Rattle.std.specs.Prelude.{◌≡◌};
 ghost use Rattle.vip_isa.specs.Rows.{first_of, operands_of, least_of, greatest_of, size_of, mnemonic_of};
 
 use machine::Kind;
-
-/// The opcode of a kind, less the number in its low half.
-pub fn first_opcode(kind: Kind) -> u8
-    ensures { result ≡ first_of kind }
-{
-    match kind {
-        Kind::Idl => 0x00,
-        Kind::Ldn => 0x00,
-        Kind::Inc => 0x10,
-        Kind::Dec => 0x20,
-        Kind::Br => 0x30,
-        Kind::Bq => 0x31,
-        Kind::Bz => 0x32,
-        Kind::Bdf => 0x33,
-        Kind::B1 => 0x34,
-        Kind::B2 => 0x35,
-        Kind::B3 => 0x36,
-        Kind::B4 => 0x37,
-        Kind::Skp => 0x38,
-        Kind::Bnq => 0x39,
-        Kind::Bnz => 0x3A,
-        Kind::Bnf => 0x3B,
-        Kind::Bn1 => 0x3C,
-        Kind::Bn2 => 0x3D,
-        Kind::Bn3 => 0x3E,
-        Kind::Bn4 => 0x3F,
-        Kind::Lda => 0x40,
-        Kind::Str => 0x50,
-        Kind::Irx => 0x60,
-        Kind::Out => 0x60,
-        Kind::Undefined => 0x68,
-        Kind::Inp => 0x68,
-        Kind::Ret => 0x70,
-        Kind::Dis => 0x71,
-        Kind::Ldxa => 0x72,
-        Kind::Stxd => 0x73,
-        Kind::Adc => 0x74,
-        Kind::Sdb => 0x75,
-        Kind::Shrc => 0x76,
-        Kind::Smb => 0x77,
-        Kind::Sav => 0x78,
-        Kind::Mark => 0x79,
-        Kind::Req => 0x7A,
-        Kind::Seq => 0x7B,
-        Kind::Adci => 0x7C,
-        Kind::Sdbi => 0x7D,
-        Kind::Shlc => 0x7E,
-        Kind::Smbi => 0x7F,
-        Kind::Glo => 0x80,
-        Kind::Ghi => 0x90,
-        Kind::Plo => 0xA0,
-        Kind::Phi => 0xB0,
-        Kind::Lbr => 0xC0,
-        Kind::Lbq => 0xC1,
-        Kind::Lbz => 0xC2,
-        Kind::Lbdf => 0xC3,
-        Kind::Nop => 0xC4,
-        Kind::Lsnq => 0xC5,
-        Kind::Lsnz => 0xC6,
-        Kind::Lsnf => 0xC7,
-        Kind::Lskp => 0xC8,
-        Kind::Lbnq => 0xC9,
-        Kind::Lbnz => 0xCA,
-        Kind::Lbnf => 0xCB,
-        Kind::Lsie => 0xCC,
-        Kind::Lsq => 0xCD,
-        Kind::Lsz => 0xCE,
-        Kind::Lsdf => 0xCF,
-        Kind::Sep => 0xD0,
-        Kind::Sex => 0xE0,
-        Kind::Ldx => 0xF0,
-        Kind::Or => 0xF1,
-        Kind::And => 0xF2,
-        Kind::Xor => 0xF3,
-        Kind::Add => 0xF4,
-        Kind::Sd => 0xF5,
-        Kind::Shr => 0xF6,
-        Kind::Sm => 0xF7,
-        Kind::Ldi => 0xF8,
-        Kind::Ori => 0xF9,
-        Kind::Ani => 0xFA,
-        Kind::Xri => 0xFB,
-        Kind::Adi => 0xFC,
-        Kind::Sdi => 0xFD,
-        Kind::Shl => 0xFE,
-        Kind::Smi => 0xFF,
-    }
-}
 
 /// What stands behind the mnemonic of a kind.
 #[derive(Clone, Copy)]
@@ -111,54 +23,121 @@ pub enum Operands {
     Data,
 }
 
+/// A row of the table: an opcode, less the number in its low half, a mnemonic, and what stands behind it.
+type Row = (u8, &'static str, Operands);
+
+/// The rows, in the order of the kinds.
+static ROWS: [Row; 80] = [
+    (0x00, "IDL", Operands::Nothing),
+    (0x00, "LDN", Operands::Register),
+    (0x10, "INC", Operands::Register),
+    (0x20, "DEC", Operands::Register),
+    (0x30, "BR", Operands::Short),
+    (0x31, "BQ", Operands::Short),
+    (0x32, "BZ", Operands::Short),
+    (0x33, "BDF", Operands::Short),
+    (0x34, "B1", Operands::Short),
+    (0x35, "B2", Operands::Short),
+    (0x36, "B3", Operands::Short),
+    (0x37, "B4", Operands::Short),
+    (0x38, "SKP", Operands::Nothing),
+    (0x39, "BNQ", Operands::Short),
+    (0x3A, "BNZ", Operands::Short),
+    (0x3B, "BNF", Operands::Short),
+    (0x3C, "BN1", Operands::Short),
+    (0x3D, "BN2", Operands::Short),
+    (0x3E, "BN3", Operands::Short),
+    (0x3F, "BN4", Operands::Short),
+    (0x40, "LDA", Operands::Register),
+    (0x50, "STR", Operands::Register),
+    (0x60, "IRX", Operands::Nothing),
+    (0x60, "OUT", Operands::Port),
+    (0x68, "DB", Operands::Data),
+    (0x68, "INP", Operands::Port),
+    (0x70, "RET", Operands::Nothing),
+    (0x71, "DIS", Operands::Nothing),
+    (0x72, "LDXA", Operands::Nothing),
+    (0x73, "STXD", Operands::Nothing),
+    (0x74, "ADC", Operands::Nothing),
+    (0x75, "SDB", Operands::Nothing),
+    (0x76, "SHRC", Operands::Nothing),
+    (0x77, "SMB", Operands::Nothing),
+    (0x78, "SAV", Operands::Nothing),
+    (0x79, "MARK", Operands::Nothing),
+    (0x7A, "REQ", Operands::Nothing),
+    (0x7B, "SEQ", Operands::Nothing),
+    (0x7C, "ADCI", Operands::Byte),
+    (0x7D, "SDBI", Operands::Byte),
+    (0x7E, "SHLC", Operands::Nothing),
+    (0x7F, "SMBI", Operands::Byte),
+    (0x80, "GLO", Operands::Register),
+    (0x90, "GHI", Operands::Register),
+    (0xA0, "PLO", Operands::Register),
+    (0xB0, "PHI", Operands::Register),
+    (0xC0, "LBR", Operands::Long),
+    (0xC1, "LBQ", Operands::Long),
+    (0xC2, "LBZ", Operands::Long),
+    (0xC3, "LBDF", Operands::Long),
+    (0xC4, "NOP", Operands::Nothing),
+    (0xC5, "LSNQ", Operands::Nothing),
+    (0xC6, "LSNZ", Operands::Nothing),
+    (0xC7, "LSNF", Operands::Nothing),
+    (0xC8, "LSKP", Operands::Nothing),
+    (0xC9, "LBNQ", Operands::Long),
+    (0xCA, "LBNZ", Operands::Long),
+    (0xCB, "LBNF", Operands::Long),
+    (0xCC, "LSIE", Operands::Nothing),
+    (0xCD, "LSQ", Operands::Nothing),
+    (0xCE, "LSZ", Operands::Nothing),
+    (0xCF, "LSDF", Operands::Nothing),
+    (0xD0, "SEP", Operands::Register),
+    (0xE0, "SEX", Operands::Register),
+    (0xF0, "LDX", Operands::Nothing),
+    (0xF1, "OR", Operands::Nothing),
+    (0xF2, "AND", Operands::Nothing),
+    (0xF3, "XOR", Operands::Nothing),
+    (0xF4, "ADD", Operands::Nothing),
+    (0xF5, "SD", Operands::Nothing),
+    (0xF6, "SHR", Operands::Nothing),
+    (0xF7, "SM", Operands::Nothing),
+    (0xF8, "LDI", Operands::Byte),
+    (0xF9, "ORI", Operands::Byte),
+    (0xFA, "ANI", Operands::Byte),
+    (0xFB, "XRI", Operands::Byte),
+    (0xFC, "ADI", Operands::Byte),
+    (0xFD, "SDI", Operands::Byte),
+    (0xFE, "SHL", Operands::Nothing),
+    (0xFF, "SMI", Operands::Byte),
+];
+
+/// The row of a kind.
+fn row_of(kind: Kind) -> Row
+    ensures opcode { result.0 ≡ first_of kind }
+    ensures mnemonic { result.1.now ≡ mnemonic_of kind }
+    ensures operands { result.2 ≡ operands_of kind }
+{
+    ROWS[kind as usize]
+}
+
+/// The opcode of a kind, less the number in its low half.
+pub fn first_opcode(kind: Kind) -> u8
+    ensures { result ≡ first_of kind }
+{
+    row_of(kind).0
+}
+
 /// What stands behind the mnemonic of a kind.
 pub fn operands_in(kind: Kind) -> Operands
     ensures { result ≡ operands_of kind }
 {
-    match kind {
-        Kind::Ldn
-        | Kind::Inc
-        | Kind::Dec
-        | Kind::Lda
-        | Kind::Str
-        | Kind::Glo
-        | Kind::Ghi
-        | Kind::Plo
-        | Kind::Phi
-        | Kind::Sep
-        | Kind::Sex => Operands::Register,
-        Kind::Out | Kind::Inp => Operands::Port,
-        Kind::Adci
-        | Kind::Sdbi
-        | Kind::Smbi
-        | Kind::Ldi
-        | Kind::Ori
-        | Kind::Ani
-        | Kind::Xri
-        | Kind::Adi
-        | Kind::Sdi
-        | Kind::Smi => Operands::Byte,
-        Kind::Br
-        | Kind::Bq
-        | Kind::Bz
-        | Kind::Bdf
-        | Kind::B1
-        | Kind::B2
-        | Kind::B3
-        | Kind::B4
-        | Kind::Bnq
-        | Kind::Bnz
-        | Kind::Bnf
-        | Kind::Bn1
-        | Kind::Bn2
-        | Kind::Bn3
-        | Kind::Bn4 => Operands::Short,
-        Kind::Lbr | Kind::Lbq | Kind::Lbz | Kind::Lbdf | Kind::Lbnq | Kind::Lbnz | Kind::Lbnf => {
-            Operands::Long
-        }
-        Kind::Undefined => Operands::Data,
-        _ => Operands::Nothing,
-    }
+    row_of(kind).2
+}
+
+/// The mnemonic of a kind.
+pub fn mnemonic_in(kind: Kind) -> &'static str
+    ensures { result.now ≡ mnemonic_of kind }
+{
+    row_of(kind).1
 }
 
 /// The least number that a kind can have.
@@ -190,93 +169,5 @@ pub fn size_in(kind: Kind) -> u8
         Operands::Byte | Operands::Short => 2,
         Operands::Long => 3,
         _ => 1,
-    }
-}
-
-/// The mnemonic of a kind.
-pub fn mnemonic_in(kind: Kind) -> &'static str
-    ensures { result.now ≡ mnemonic_of kind }
-{
-    match kind {
-        Kind::Idl => "IDL",
-        Kind::Ldn => "LDN",
-        Kind::Inc => "INC",
-        Kind::Dec => "DEC",
-        Kind::Br => "BR",
-        Kind::Bq => "BQ",
-        Kind::Bz => "BZ",
-        Kind::Bdf => "BDF",
-        Kind::B1 => "B1",
-        Kind::B2 => "B2",
-        Kind::B3 => "B3",
-        Kind::B4 => "B4",
-        Kind::Skp => "SKP",
-        Kind::Bnq => "BNQ",
-        Kind::Bnz => "BNZ",
-        Kind::Bnf => "BNF",
-        Kind::Bn1 => "BN1",
-        Kind::Bn2 => "BN2",
-        Kind::Bn3 => "BN3",
-        Kind::Bn4 => "BN4",
-        Kind::Lda => "LDA",
-        Kind::Str => "STR",
-        Kind::Irx => "IRX",
-        Kind::Out => "OUT",
-        Kind::Undefined => "DB",
-        Kind::Inp => "INP",
-        Kind::Ret => "RET",
-        Kind::Dis => "DIS",
-        Kind::Ldxa => "LDXA",
-        Kind::Stxd => "STXD",
-        Kind::Adc => "ADC",
-        Kind::Sdb => "SDB",
-        Kind::Shrc => "SHRC",
-        Kind::Smb => "SMB",
-        Kind::Sav => "SAV",
-        Kind::Mark => "MARK",
-        Kind::Req => "REQ",
-        Kind::Seq => "SEQ",
-        Kind::Adci => "ADCI",
-        Kind::Sdbi => "SDBI",
-        Kind::Shlc => "SHLC",
-        Kind::Smbi => "SMBI",
-        Kind::Glo => "GLO",
-        Kind::Ghi => "GHI",
-        Kind::Plo => "PLO",
-        Kind::Phi => "PHI",
-        Kind::Lbr => "LBR",
-        Kind::Lbq => "LBQ",
-        Kind::Lbz => "LBZ",
-        Kind::Lbdf => "LBDF",
-        Kind::Nop => "NOP",
-        Kind::Lsnq => "LSNQ",
-        Kind::Lsnz => "LSNZ",
-        Kind::Lsnf => "LSNF",
-        Kind::Lskp => "LSKP",
-        Kind::Lbnq => "LBNQ",
-        Kind::Lbnz => "LBNZ",
-        Kind::Lbnf => "LBNF",
-        Kind::Lsie => "LSIE",
-        Kind::Lsq => "LSQ",
-        Kind::Lsz => "LSZ",
-        Kind::Lsdf => "LSDF",
-        Kind::Sep => "SEP",
-        Kind::Sex => "SEX",
-        Kind::Ldx => "LDX",
-        Kind::Or => "OR",
-        Kind::And => "AND",
-        Kind::Xor => "XOR",
-        Kind::Add => "ADD",
-        Kind::Sd => "SD",
-        Kind::Shr => "SHR",
-        Kind::Sm => "SM",
-        Kind::Ldi => "LDI",
-        Kind::Ori => "ORI",
-        Kind::Ani => "ANI",
-        Kind::Xri => "XRI",
-        Kind::Adi => "ADI",
-        Kind::Sdi => "SDI",
-        Kind::Shl => "SHL",
-        Kind::Smi => "SMI",
     }
 }

@@ -1,15 +1,16 @@
 //! The text of an instruction.
 
-ghost use Rattle.std.specs.Prelude.{◌≡◌, ◌+◌, ◌≤◌, ◌<◌, ◌++◌, length};
+ghost use Rattle.std.specs.Prelude.{◌≡◌, ◌+◌, ◌-◌, ◌≤◌, ◌++◌, length, drop};
 ghost use Rattle.arrayvec.specs.ArrayVec.{array_vec_len};
 ghost use Rattle.machine.specs.Opcodes.{kind_of};
+ghost use Rattle.vip_byte.specs.HexText.{hex4};
 ghost use Rattle.vip_isa.specs.Rows.{mnemonic_of};
 ghost use Rattle.vip_isa.specs.Texts.{HasOneDigit, instruction_text, operand_at, operand_text};
 
 use crate::rows::{Operands, operands_in};
 use crate::{Op, decode, mnemonic};
 use arrayvec::ArrayVec;
-use vip_byte::{add16, hex2, hex4};
+use vip_byte::{add16, hex4};
 
 /// The most characters of an instruction: four of a mnemonic, and seven of an operand.
 const MOST_TEXT: usize = 11;
@@ -59,31 +60,31 @@ fn operand_in(address: u16, bytes: [u8; 3]) -> Operand
     }
 }
 
+// What is written of an operand: what stands before its digits, and so many of the four digits of a number.
+fn operand_parts(operand: Operand) -> (&'static str, u16, usize)
+    requires { HasOneDigit operand }
+    ensures text { operand_text operand ≡ result.0.now ++ drop (4 - result.2) (hex4 result.1) }
+    ensures word { length result.0.now ≤ 3 }
+    ensures digits { result.2 ≤ 4 }
+{
+    match operand {
+        Operand::Nothing => ("", 0, 0),
+        Operand::Register(number) => (" R", u16::from(number), 1),
+        Operand::Port(number) => (" ", u16::from(number), 1),
+        Operand::Byte(value) => (" 0x", u16::from(value), 2),
+        Operand::Target(target) => (" 0x", target, 4),
+    }
+}
+
 // Appends an operand behind a blank.
 fn put_operand(into: &mut InstructionText, operand: Operand)
     requires digit { HasOneDigit operand }
     requires room { array_vec_len into.old ≤ 4 }
     ensures { into.new.items ≡ into.old.items ++ operand_text operand }
 {
-    match operand {
-        Operand::Nothing => {}
-        Operand::Register(number) => {
-            put(into, b" R");
-            put(into, &hex2(number)[1..]);
-        }
-        Operand::Port(number) => {
-            put(into, b" ");
-            put(into, &hex2(number)[1..]);
-        }
-        Operand::Byte(value) => {
-            put(into, b" 0x");
-            put(into, &hex2(value));
-        }
-        Operand::Target(target) => {
-            put(into, b" 0x");
-            put(into, &hex4(target));
-        }
-    }
+    let (word, number, digits) = operand_parts(operand);
+    put(into, word.as_bytes());
+    put(into, &hex4(number)[4 - digits..]);
 }
 
 // A mnemonic, which is short.
