@@ -2,6 +2,7 @@
 
 use arrayvec::ArrayVec;
 use chip8_words::Op;
+use thiserror::Error;
 
 /// An instruction set, whose words and numbers a source is written in.
 #[derive(Clone, Copy)]
@@ -73,23 +74,28 @@ pub struct Line {
     pub operands: ArrayVec<Span, 128>,
 }
 
-/// The first fault of a line by itself, in the order of the variants. The causes of `asm_core` have the texts.
-#[derive(Clone, Copy)]
+/// The first fault of a line by itself, in the order of the variants.
+#[derive(Clone, Copy, Debug, Error)]
 pub enum LexFault {
     /// A byte that isn't allowed, more than 255 bytes, a label that isn't a name, or a name of more than 32 characters.
+    #[error("BadText")]
     BadText,
     /// A word that is neither a mnemonic nor a directive.
+    #[error("UnknownMnemonic")]
     UnknownMnemonic,
     /// A wrong number or kind of operands, a text that is no expression, a register or an operand's word in an expression, LDN R0, or EQU
     /// without a label.
+    #[error("BadOperand")]
     BadOperand,
 }
 
-/// The first fault of an expression's value, in the order of the variants. The causes of `asm_core` have the texts.
-#[derive(Clone, Copy)]
+/// The first fault of an expression's value, in the order of the variants.
+#[derive(Clone, Copy, Debug, Error)]
 pub enum ValueFault {
     /// A name that has no value.
+    #[error("Undefined")]
     Undefined,
     /// A number above 65535, or a prefix on a sum outside 0 to 65535.
+    #[error("Range")]
     Range,
 }
