@@ -1,7 +1,7 @@
 -- The values of operands while they are collected.
 use Rattle.std.proofs.Common.{◌≡◌, ◌∙◌, ◌<◌, ◌+◌, ℕ, ap, sym, append_assoc, add-one, drop, drop-cons, get_or, length, refl, Bool, List, [], ◌∷◌, ◌++◌, true, false, cond, Ok, Err, Result}
-use Rattle.std.specs.Prelude.{map, not, ◌&&◌, ◌||◌, is_err}
-use Rattle.std.specs.List.{list_all, list_any}
+use Rattle.std.specs.Prelude.{map, not, ◌||◌, is_err}
+use Rattle.std.specs.List.{list_any}
 use Rattle.std.specs.Result.{result_unwrap_or}
 use Rattle.asm_lex.specs.declared.shape.ValueFault.{ValueFault}
 use Rattle.asm_lex.specs.declared.shape.ValueFault.TheVariants.{Undefined, Range}
@@ -37,10 +37,3 @@ pub drop_next : {A B : Type 0} (f : A → B) (xs : List A) (i : ℕ) (d : A) →
     → map f (drop i xs) ≡ f (get_or xs i d) ∷ map f (drop (i + 1) xs)
 drop_next f xs i d below =
     ap (map f) (drop-cons xs i d below) ∙ ap (λ next. f (get_or xs i d) ∷ map f (drop next xs)) (sym (add-one i))
-
-pub rest_all : {A : Type 0} (p : A → Bool) (x : A) (xs : List A) → list_all p (x ∷ xs) ≡ true → list_all p xs ≡ true
-rest_all p x xs all = second (p x) (list_all p xs) all
-  where
-    second : (a b : Bool) → (a && b) ≡ true → b ≡ true
-    second true b both = both
-    second false b both = absurd (cc)

@@ -1,14 +1,9 @@
 //! The place of what is wrong in a faulty line.
 
-ghost use Rattle.std.specs.Prelude.{◌≡◌, ◌≤◌, length, map, find, drop, slice_get, is_err, unwrap_or, IsTrue};
-ghost use Rattle.std.specs.List.{list_all};
+ghost use Rattle.std.specs.Prelude.{◌≡◌, ◌≤◌, length, slice_get, unwrap_or};
 ghost use Rattle.asm_lex.specs.Culprits.{is_sought, first_term};
-ghost use Rattle.asm_lex.specs.Expressions.{is_expression};
-ghost use Rattle.asm_lex.specs.Lines.{operands_of};
 ghost use Rattle.asm_lex.specs.Names.{value_in};
-ghost use Rattle.asm_lex.specs.Parts.{code_of};
 ghost use Rattle.asm_lex.specs.Spans.{text_at, IsWithin, AreWithin};
-ghost use Rattle.asm_lex.specs.Words.{HasItsOperands};
 ghost use Rattle.asm_core.specs.Culprits.{word_place, label_place, word_or_label, spans_of, span_or_word, short_culprit, large_number, culprit_1, number_spans, first_outside, outside_span, culprit_2};
 
 use crate::fault::AsmCause;
@@ -159,7 +154,6 @@ fn first_outside(
     line: &[u8],
     spans: &[Span],
 ) -> Option<Span>
-    requires expressions { IsTrue (list_all (is_expression isa) (map (text_at line.now) spans.now)) }
     requires within { AreWithin line.now spans.now }
     requires short { length line.now ≤ 255 }
     requires at { at ≤ 65536 }
@@ -181,7 +175,6 @@ fn outside_span(
     line: &[u8],
     spans: &[Span],
 ) -> Option<Span>
-    requires operands { HasItsOperands isa word (map (text_at line.now) spans.now) }
     requires within { AreWithin line.now spans.now }
     requires short { length line.now ≤ 255 }
     requires at { at ≤ 65536 }
@@ -204,9 +197,7 @@ pub(crate) fn culprit_2(
     line: &[u8],
     cause: AsmCause,
 ) -> Place
-    requires operands { HasItsOperands isa word (operands_of (code_of line.now)) }
     requires short { length line.now ≤ 255 }
-    requires few { length (operands_of (code_of line.now)) ≤ 128 }
     requires at { at ≤ 65536 }
     ensures { result ≡ culprit_2 isa (value_in names.now) at word line.now cause }
 {

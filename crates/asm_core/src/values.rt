@@ -1,27 +1,17 @@
 //! The values of operands.
 
-ghost use Rattle.std.specs.Prelude.{◌≡◌, ◌≤◌, ◌<◌, ℕ, List, [], ◌++◌, map, length, All, IsTrue, IfOk, MatchResult, Ok, Err};
-ghost use Rattle.std.specs.List.{list_all, list_any};
-ghost use Rattle.asm_lex.specs.Expressions.{is_expression, has_large_number, value_of};
+ghost use Rattle.std.specs.Prelude.{◌≡◌, ◌≤◌, ◌<◌, map, length, All, IsTrue, IfOk, MatchResult, Ok, Err};
+ghost use Rattle.std.specs.List.{list_any};
+ghost use Rattle.asm_lex.specs.Expressions.{is_expression, has_large_number};
 ghost use Rattle.asm_lex.specs.Forms.{last_operand};
 ghost use Rattle.asm_lex.specs.Words.{is_one};
 ghost use Rattle.asm_lex.specs.Spans.{text_at, AreWithin};
-ghost use Rattle.asm_lex.specs.Names.{value_in, number_named};
+ghost use Rattle.asm_lex.specs.Names.{value_in};
 ghost use Rattle.asm_core.specs.Names.{operand_value, first_operand, within};
 ghost use Rattle.asm_core.specs.Encoding.{values_of};
 
 use arrayvec::ArrayVec;
 use asm_lex::{Isa, Span, Symbols, ValueFault, has_large_number, text_at, value};
-
-// The value of an expression in a line that begins at the address `here`.
-fn sum(isa: Isa, names: &Symbols, here: u32, text: &[u8]) -> Result<i64, ValueFault>
-    requires expression { IsTrue (is_expression isa text.now) }
-    requires short { length text.now ≤ 255 }
-    requires here { here ≤ 65536 }
-    ensures { result ≡ value_of isa (number_named (value_in names.now)) here text.now }
-{
-    value(isa, text, here, |name| names.number(name))
-}
 
 // A value that must lie in 0 to `most`.
 fn check_bound(value: Result<i64, ValueFault>, most: u16) -> Result<u16, ValueFault>
@@ -44,13 +34,12 @@ pub(crate) fn operand_value(
     most: u16,
     text: &[u8],
 ) -> Result<u16, ValueFault>
-    requires expression { IsTrue (is_expression isa text.now) }
     requires short { length text.now ≤ 255 }
     requires here { here ≤ 65536 }
     ensures value { result ≡ operand_value isa (value_in names.now) here most text.now }
     ensures bound { IfOk result (λ value. value ≤ most) }
 {
-    check_bound(sum(isa, names, here, text), most)
+    check_bound(value(isa, names, here, text), most)
 }
 
 /// The values of a line's operands, or the first fault in the order of the causes.
@@ -62,7 +51,6 @@ pub(crate) fn values_of(
     line: &[u8],
     operands: &[Span],
 ) -> Result<ArrayVec<u16, 128>, ValueFault>
-    requires expressions { IsTrue (list_all (is_expression isa) (map (text_at line.now) operands.now)) }
     requires within { AreWithin line.now operands.now }
     requires short { length line.now ≤ 255 }
     requires few { length operands.now ≤ 128 }
@@ -116,7 +104,6 @@ pub(crate) fn last_value(
     operands: &[Span],
 ) -> Result<u16, ValueFault>
     requires some { 0 < length operands.now }
-    requires expression { IsTrue (is_expression Isa.Chip8 (last_operand (map (text_at line.now) operands.now))) }
     requires within { AreWithin line.now operands.now }
     requires short { length line.now ≤ 255 }
     requires here { here ≤ 65536 }

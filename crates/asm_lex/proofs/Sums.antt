@@ -1,12 +1,11 @@
 -- A sum while its terms are taken.
-use Rattle.std.proofs.Common.{◌≡◌, ◌+◌, ℕ, refl, Bool, List, ◌∷◌, suc, subst, sym, ◌∙◌, ap, arith, true, false, cond, ℤ, pos, ◌+ℤ◌, ◌-ℤ◌, ◌≤ℤ◌, ◌≤◌, ◌*◌, ◌-◌, Some, Option}
-use Rattle.std.specs.Prelude.{filter, fold, is_none, unwrap_or, ◌==◌, Contains, ◌||◌}
-use Rattle.std.specs.List.{list_any, list_all}
+use Rattle.std.proofs.Common.{◌≡◌, ◌+◌, ℕ, List, ◌∷◌, sym, ◌∙◌, ap, arith, true, false, cond, ℤ, pos, ◌+ℤ◌, ◌-ℤ◌, ◌≤ℤ◌, ◌≤◌, ◌*◌, ◌-◌, Some, Option}
+use Rattle.std.specs.Prelude.{fold, is_none, unwrap_or, ◌==◌, ◌||◌}
+use Rattle.std.specs.List.{list_any}
 use Rattle.std.proofs.lemmas.Int.{ints}
-use Rattle.std.proofs.lemmas.Bool.{or_parts, and_parts}
+use Rattle.std.proofs.lemmas.Bool.{or_parts}
 use Rattle.asm_lex.specs.declared.shape.Isa.{Isa}
-use Rattle.asm_lex.specs.Bytes.{is_name}
-use Rattle.asm_lex.specs.Expressions.{sum_in, is_term, is_large, has_large_number, term_value, has_undefined, with_term, sum_of, terms_of, signed_terms}
+use Rattle.asm_lex.specs.Expressions.{sum_in, is_large, has_large_number, term_value, has_undefined, with_term, sum_of, terms_of, signed_terms}
 use Rattle.asm_lex.specs.Left.{left_terms, left_signed}
 
 -- the terms that are left decide about undefined names, and complete the sum where no number is too large
@@ -62,32 +61,6 @@ pub completes_undefined : (isa : Isa) (names : List ℕ → Option ℕ) (here : 
 completes_undefined isa names here text sum sign terms term more so_far parts there =
     sym (so_far.undefined ∙ ap (list_any (λ term. is_none (term_value isa names here term))) parts
     ∙ ap (λ b. b || list_any (λ term. is_none (term_value isa names here term)) (left_terms more)) (sym there))
-
--- a name among the terms that are left
-pub contains_behind : (b : Bool) (x t : List ℕ) (xs : List (List ℕ)) → Contains xs t → Contains (cond b (x ∷ xs) xs) t
-contains_behind true x t xs h = (suc h.0, omega (arith, h.1), h.2)
-contains_behind false x t xs h = h
-
-pub contains_first : (b : Bool) (t : List ℕ) (xs : List (List ℕ)) → b ≡ true → Contains (cond b (t ∷ xs) xs) t
-contains_first true t xs e = (0, omega arith, refl)
-contains_first false t xs e = absurd (cc)
-
--- the first term that is left, and the others
-pub terms_next : (isa : Isa) (terms term : List ℕ) (more : Option (ℕ × List ℕ)) → terms_of terms ≡ term ∷ left_terms more
-    → list_all (is_term isa) (terms_of terms) ≡ true → (is_term isa term ≡ true) × (list_all (is_term isa) (left_terms more) ≡ true)
-terms_next isa terms term more parts all = and_parts _ _ (sym (ap (list_all (is_term isa)) parts) ∙ all)
-
-pub names_next : (isa : Isa) (terms term t : List ℕ) (more : Option (ℕ × List ℕ)) → terms_of terms ≡ term ∷ left_terms more
-    → Contains (filter (is_name isa) (left_terms more)) t → Contains (filter (is_name isa) (terms_of terms)) t
-names_next isa terms term t more parts h =
-    let P : List (List ℕ) → Type 0 = λ ts. Contains (filter (is_name isa) ts) t in
-    subst P (sym parts) (contains_behind (is_name isa term) term t (filter (is_name isa) (left_terms more)) h)
-
-pub name_first : (isa : Isa) (terms term : List ℕ) (more : Option (ℕ × List ℕ)) → terms_of terms ≡ term ∷ left_terms more
-    → is_name isa term ≡ true → Contains (filter (is_name isa) (terms_of terms)) term
-name_first isa terms term more parts e =
-    let P : List (List ℕ) → Type 0 = λ ts. Contains (filter (is_name isa) ts) term in
-    subst P (sym parts) (contains_first (is_name isa term) term (filter (is_name isa) (left_terms more)) e)
 
 -- the bounds of the sum grow by at most 65536 for each term; `m` bytes are left behind a term of `n` bytes
 pub bound_next : (m n : ℕ) → m ≤ n → n + 1 ≤ 256 → m ≤ 256

@@ -4,7 +4,6 @@ pub mod Parts
 pub mod Expressions
 pub mod Names
 pub mod Cuts
-pub mod Looks
 pub mod Left
 pub mod Spans
 pub mod Forms

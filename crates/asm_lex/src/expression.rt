@@ -5,8 +5,7 @@ ghost use Rattle.std.specs.Option.{option_map};
 ghost use Rattle.vip_byte.specs.Number.{number};
 ghost use Rattle.asm_lex.specs.Bytes.{is_name};
 ghost use Rattle.asm_lex.specs.Expressions.{sum_in, number_in, hexadecimal_of, binary_of, written_value, is_here, is_term, is_expression, is_large, has_large_number, term_value, terms_of, signed_terms, sum_of, value_of, prefixed, has_undefined};
-ghost use Rattle.asm_lex.specs.Names.{value_in, is_register, is_number};
-ghost use Rattle.asm_lex.specs.Looks.{TakesNames, AnswersAs, TakesTerm, AnswersTermAs};
+ghost use Rattle.asm_lex.specs.Names.{value_in, number_named, is_register, is_number};
 ghost use Rattle.asm_lex.specs.Left.{left, left_terms, left_signed, left_length};
 
 use crate::cuts::{Stop, cut, position};
@@ -169,27 +168,23 @@ pub fn has_large_number(isa: Isa, text: &[u8]) -> bool
     false
 }
 
-// The value of a term that isn't too large a number; none for a name that has no value.
+// The value of a term, and 65536 for a number above 65535; none for a name that has no value.
 #[tactic(auto, unfolding(crate::specs::Expressions::term_value))]
-fn term_value<F: Fn(&[u8]) -> Option<u16>>(
-    isa: Isa,
-    term: &[u8],
-    here: u32,
-    look: &F,
-) -> Option<u32>
-    requires term { IsTrue (is_term isa term.now) }
-    requires here { here ≤ 65536 }
-    requires look { TakesTerm F.Fn look.now isa term.now }
-    ensures variant { (names : List ℕ → Option ℕ) → AnswersTermAs F.Fn look.now isa term.now names →
-        is_none result ≡ is_none (term_value isa names here term.now) }
-    ensures value { (names : List ℕ → Option ℕ) → AnswersTermAs F.Fn look.now isa term.now names →
-        is_large isa term.now ≡ false → result ≡ term_value isa names here term.now }
+fn term_value(isa: Isa, names: &Symbols, here: u32, term: &[u8]) -> Option<u32>
+    requires { here ≤ 65536 }
+    ensures variant { is_none result ≡ is_none (term_value isa (number_named (value_in names.now)) here term.now) }
+    ensures value { is_large isa term.now ≡ false → result ≡ term_value isa (number_named (value_in names.now)) here term.now }
     ensures within { IfSome result (λ value. value ≤ 65536) }
 {
-    match number(isa, term) {
-        Some(number) => Some(number),
-        None if is_here(term) => Some(here),
-        None => Some(u32::from(look(term)?)),
+    if let Some(number) = number(isa, term) {
+        return Some(number);
+    }
+    if is_here(term) {
+        return Some(here);
+    }
+    match names.number(term) {
+        Some(number) => Some(u32::from(number)),
+        None => None,
     }
 }
 
@@ -224,21 +219,18 @@ fn with_term(sum: i64, sign: u8, value: u32) -> i64
 }
 
 // The sum of an expression without a large number; none where a name in it has no value.
-fn sum<F: Fn(&[u8]) -> Option<u16>>(isa: Isa, text: &[u8], here: u32, look: &F) -> Option<i64>
-    requires expression { IsTrue (is_expression isa text.now) }
+fn sum(isa: Isa, names: &Symbols, here: u32, text: &[u8]) -> Option<i64>
     requires short { length text.now ≤ 255 }
     requires here { here ≤ 65536 }
-    requires look { TakesNames F.Fn look.now isa text.now }
-    ensures undefined { (names : List ℕ → Option ℕ) → AnswersAs F.Fn look.now isa text.now names →
-        is_none result ≡ has_undefined isa names here text.now }
-    ensures value { (names : List ℕ → Option ℕ) → AnswersAs F.Fn look.now isa text.now names →
-        has_large_number isa text.now ≡ false → IfSome result (λ sum. sum ≡ sum_of isa names here text.now) }
+    ensures undefined { is_none result ≡ has_undefined isa (number_named (value_in names.now)) here text.now }
+    ensures value { has_large_number isa text.now ≡ false →
+        IfSome result (λ sum. sum ≡ sum_of isa (number_named (value_in names.now)) here text.now) }
 {
     let mut rest = Some((b'+', without_prefix(text)));
     let mut sum = 0;
     while let Some((sign, terms)) = rest {
         let (term, more) = first_term(terms);
-        let Some(value) = term_value(isa, term, here, look) else {
+        let Some(value) = term_value(isa, names, here, term) else {
             return None;
         };
         sum = with_term(sum, sign, value);
@@ -268,23 +260,15 @@ fn apply_prefix(text: &[u8], sum: i64) -> Result<i64, ValueFault>
     }
 }
 
-/// The value of an expression of at most 255 bytes in a line that begins at the address `here`, at most 65536, or its first fault.
-/// `look` answers the value of a name, or nothing where it has none; it must take each name in the expression.
+/// The value of an expression of at most 255 bytes in a line that begins at the address `here`, at most 65536, or its first fault. `names` has the values
+/// of its names.
 #[tactic(auto, unfolding(crate::specs::Expressions::value_of))]
-pub fn value<F: Fn(&[u8]) -> Option<u16>>(
-    isa: Isa,
-    text: &[u8],
-    here: u32,
-    look: F,
-) -> Result<i64, ValueFault>
-    requires expression { IsTrue (is_expression isa text.now) }
+pub fn value(isa: Isa, names: &Symbols, here: u32, text: &[u8]) -> Result<i64, ValueFault>
     requires short { length text.now ≤ 255 }
     requires here { here ≤ 65536 }
-    requires look { TakesNames F.Fn look isa text.now }
-    // Whatever values of names the answers of `look` are.
-    ensures { (names : List ℕ → Option ℕ) → AnswersAs F.Fn look isa text.now names → result ≡ value_of isa names here text.now }
+    ensures { result ≡ value_of isa (number_named (value_in names.now)) here text.now }
 {
-    let Some(sum) = sum(isa, text, here, &look) else {
+    let Some(sum) = sum(isa, names, here, text) else {
         return Err(ValueFault::Undefined);
     };
     if has_large_number(isa, text) {

@@ -153,7 +153,9 @@ impl<'a> Iterator for SymbolIter<'a> {
     ghost remaining = { item_count (λ left. left) };
 
     fn next(&mut self) -> Option<(&'a [u8], SymbolValue)> {
-        let (name, value) = self.entries.next()?;
-        Some((name.as_slice(), *value))
+        match self.entries.next() {
+            Some((name, value)) => Some((name.as_slice(), *value)),
+            None => None,
+        }
     }
 }

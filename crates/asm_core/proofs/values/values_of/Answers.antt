@@ -1,14 +1,12 @@
 use Rattle.std.proofs.Common.{arith, ap, ap₂, subst, sym, ◌≡◌, ◌∙◌, ◌≤◌, ◌+◌, ◌∷◌, ◌++◌, [], drop, get_or, length, length-append, true, List, ℕ, Err}
 use Rattle.std.proofs.lemmas.List.Elements.{All-push}
-use Rattle.std.specs.List.{list_all}
 use Rattle.std.specs.Prelude.{map, All}
-use Rattle.asm_lex.specs.Expressions.{is_expression}
 use Rattle.asm_lex.specs.Spans.{text_at}
 use Rattle.asm_lex.specs.declared.shape.Span.{Span}
 use Rattle.asm_lex.specs.Names.{value_in}
 use Rattle.asm_core.specs.Names.{operand_value}
 use Rattle.asm_core.specs.Encoding.{values_of}
-use Rattle.asm_core.proofs.Collected.{collect_from, collect_none, collect_range, collect_value, drop_next, rest_all}
+use Rattle.asm_core.proofs.Collected.{collect_from, collect_none, collect_range, collect_value, drop_next}
 use Rattle.asm_core.proofs.values.values_of.Goals as goal
 use Rattle.asm_core.proofs.values.values_of.Goals.{in-Ok, in-Err-Range}
 
@@ -21,7 +19,6 @@ loop-operand-init c =
       completes = ap (λ items. collect_from true items results) c.new-values.ensures ∙ collect_none results;
       count = omega (arith, ap length c.new-values.ensures);
       bounds = subst P (sym c.new-values.ensures) (λ k d below. absurd (omega arith));
-      expressions = c.requires.expressions;
     }
 
 pub push-requires : goal.push-requires
@@ -37,8 +34,6 @@ loop-operand-preserved c =
     let rest = map text (drop (c.loop-operand.operand-index + 1) c.args.operands.now) in
     let next : map text (drop c.loop-operand.operand-index c.args.operands.now) ≡ text operand ∷ rest =
     drop_next text c.args.operands.now c.loop-operand.operand-index _ c.loop-operand-test.true in
-    let expressions : list_all (is_expression c.args.isa) rest ≡ true =
-    rest_all (is_expression c.args.isa) (text operand) rest (ap (list_all (is_expression c.args.isa)) (sym next) ∙ so_far.expressions) in
     let completes : collect_from c.loop-operand.in_range values (c.operand_value.result ∷ map value rest)
     ≡ values_of c.args.isa (value_in c.args.names.now) c.args.here c.args.most (map text c.args.operands.now) =
     ap (λ r. collect_from c.loop-operand.in_range values (r ∷ map value rest)) (c.operand_value.ensures.value ∙ ap value c.text_at.ensures)
@@ -53,7 +48,6 @@ loop-operand-preserved c =
             count = omega (arith, ap length items, length-append values (w.in-Ok.value ∷ []), so_far.count);
             bounds = subst (λ items. All (λ value. value ≤ c.args.most) items) (sym items)
                 (All-push (λ value. value ≤ c.args.most) values w.in-Ok.value so_far.bounds w.in-Ok.ensures.bound);
-            expressions = expressions;
           }
       | in-Err-Range w ↦
           record {
@@ -63,6 +57,5 @@ loop-operand-preserved c =
                 (sym (w.in-Err-Range.is ∙ ap Err w.in-Err-Range.field-0-is)) ∙ completes));
             count = omega (arith, ap (λ v. length v.items) w.values-is, so_far.count);
             bounds = subst (λ items. All (λ value. value ≤ c.args.most) items) (sym (ap (λ v. v.items) w.values-is)) so_far.bounds;
-            expressions = expressions;
           }
     ]

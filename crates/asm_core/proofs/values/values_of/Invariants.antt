@@ -1,7 +1,5 @@
-use Rattle.std.proofs.Common.{◌≡◌, ◌≤◌, drop, length, true}
+use Rattle.std.proofs.Common.{◌≡◌, ◌≤◌, drop, length}
 use Rattle.std.specs.Prelude.{map, All}
-use Rattle.std.specs.List.{list_all}
-use Rattle.asm_lex.specs.Expressions.{is_expression}
 use Rattle.asm_lex.specs.Spans.{text_at}
 use Rattle.asm_lex.specs.Names.{value_in}
 use Rattle.asm_core.specs.Names.{operand_value}
@@ -17,5 +15,4 @@ invariant-loop-operand l = record {
       ≡ values_of l.isa (value_in l.names) l.here l.most (map (text_at l.line) l.operands);
   count : length l.values.items ≤ l.operand-index;
   bounds : All (λ value. value ≤ l.most) l.values.items;
-  expressions : list_all (is_expression l.isa) (map (text_at l.line) (drop l.operand-index l.operands)) ≡ true;
 }
