@@ -184,11 +184,7 @@ fn places(alloc: Global, count: usize, place: usize) -> Result<Vec<usize>, Alloc
     ensures count { IfOk result (λ places. length places.items ≡ count) }
     ensures all { IfOk result (λ places. (i : ℕ) → i < count → get_or places.items i 0 ≡ place) }
 {
-    let mut places = Vec::with_capacity(alloc, count)?;
-    for _place in 0..count {
-        places.push(place)?;
-    }
-    Ok(places)
+    vec![in alloc; place; count]
 }
 
 // Finds the first label of each address, and behind each label the next one of its address, from the last label back.

@@ -99,9 +99,5 @@ pub(crate) fn empty_table(alloc: Global) -> Result<Vec<Option<Cell>>, AllocError
     ensures count { IfOk result (λ cells. length cells.items ≡ 65536) }
     ensures empty { IfOk result (λ cells. (address : ℕ) → slice_index_or cells.items address None ≡ None) }
 {
-    let mut cells = Vec::with_capacity(alloc, ADDRESSES)?;
-    for _address in 0..ADDRESSES {
-        cells.push(None)?;
-    }
-    Ok(cells)
+    vec![in alloc; None; ADDRESSES]
 }
