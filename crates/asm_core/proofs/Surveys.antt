@@ -12,6 +12,7 @@ use Rattle.asm_lex.specs.Lines.{parsed, Reads}
 use Rattle.asm_lex.specs.Names.{Names, value_in}
 use Rattle.asm_lex.specs.Notes.{note_in}
 use Rattle.asm_core.specs.declared.findings.Finding.{Finding}
+use Rattle.asm_core.specs.declared.findings.First.{First}
 use Rattle.asm_core.specs.declared.findings.LinePlan.{LinePlan}
 use Rattle.asm_core.specs.declared.findings.Looked.{Looked}
 use Rattle.asm_core.specs.declared.layout.Laid.{Laid}
@@ -19,11 +20,11 @@ use Rattle.asm_core.specs.declared.layout.LabelValue.{LabelValue}
 use Rattle.asm_core.specs.declared.fault.AsmCause.{AsmCause}
 use Rattle.asm_core.specs.declared.table.Cell.{Cell}
 use Rattle.asm_core.specs.Encoding.{encoded}
-use Rattle.asm_core.specs.Passes.{Planned, plan_with, word_at, line_plan, AddsLine, LaysOut}
+use Rattle.asm_core.specs.Passes.{Planned, plan_with, planned, word_at, line_plan, AddsLine, LaysOut}
 use Rattle.asm_core.specs.Layout.{laid_out, label_in}
 use Rattle.asm_core.specs.Sources.{Known, known_after, known_at, line_at, names_before, address_of, all_names, fault_1, fault_with, overlaps, bytes_of, cell_in, NoFault}
 use Rattle.asm_core.specs.declared.fault.AsmCause.TheVariants.{Overlap}
-use Rattle.asm_core.specs.Surveys.{Table, known, seen, Guesses, Looks, PutsLine}
+use Rattle.asm_core.specs.Surveys.{Table, known, seen, Guesses, Looks, HasNoLines, AddsFound, PutsLine}
 use Rattle.asm_core.specs.Told.{Seen, guessed_from, seen_after, finding_from, seen_first, seen_next, seen_at, finding_1, told_1, note_at, kept_before, cause_2, finding_2, word_from, told_2, IsEachOf}
 use Rattle.asm_core.proofs.Cells.{entry, second_none}
 use Rattle.asm_lex.specs.Ranges.{origin_of}
@@ -213,6 +214,40 @@ kept_none isa source cells empty address = empty address
 pub plan_none : (isa : Isa) (source : List (List ℕ)) (names : Table) (addresses : List ℕ) (words : List (Option Word)) (values : List LabelValue)
     → names ≡ [] → addresses ≡ origin_of isa ∷ [] → words ≡ [] → values ≡ [] → LaysOut isa source 0 (plan_with names addresses words values)
 plan_none isa source names addresses words values = lays_out_none isa source (plan_with names addresses words values)
+
+-- what pass 1 found of the first lines
+pub record AreSurveyed (isa : Isa) (source : List (List ℕ)) (with_notes : Bool) (number : ℕ) (first : First) (at : ℕ) : Type 0 where
+  pub seen : IsSeen isa source number first.plan.names at first.faulty
+  pub told : IsEachOf (told_1 isa source) number first.told.findings.items
+  pub noted : with_notes ≡ true → IsEachOf (note_at isa source) number first.told.notes.items
+  pub plan : first.faulty ≡ false → LaysOut isa source number (planned first.plan)
+
+pub surveyed-none : (isa : Isa) (source : List (List ℕ)) (with_notes : Bool) (first : First) (at : ℕ) → HasNoLines first at → at ≡ origin_of isa
+    → AreSurveyed isa source with_notes 0 first at
+surveyed-none isa source with_notes first at none place = record {
+  seen = rw none.faultless (seen_start isa source first.plan.names at none.names place);
+  told = each-none (told_1 isa source) first.told.findings.items none.findings;
+  noted = λ wanted. each-none (note_at isa source) first.told.notes.items none.notes;
+  plan = λ clean. plan_none isa source first.plan.names first.plan.addresses.items first.plan.words.items first.plan.values.items none.names
+      (none.addresses ∙ ap (λ a. a ∷ []) place) none.words none.values;
+}
+
+pub surveyed-more : (isa : Isa) (source : List (List ℕ)) (with_notes : Bool) (number : ℕ) (old : First) (at : ℕ) (line : List ℕ) (new : First) (next : ℕ)
+    → AreSurveyed isa source with_notes number old at → number < length source → line_at source number ≡ line
+    → AddsFound isa old at with_notes line new next → AreSurveyed isa source with_notes (number + 1) new next
+surveyed-more isa source with_notes number old at line new next so_far below here adds =
+    let looked = adds.looked in
+    record {
+      seen = rw (adds.next_is, adds.faulty_is)
+          (seen_more isa source number old.plan.names at old.faulty line new.plan.names looked so_far.seen below here adds.looks);
+      told = rw adds.findings (each-more (told_1 isa source) number old.told.findings.items looked.finding so_far.told
+          (told_here isa source number old.plan.names at old.faulty line new.plan.names looked so_far.seen below here adds.looks));
+      noted = λ wanted. rw (adds.notes wanted) (each-more (note_at isa source) number old.told.notes.items _ (so_far.noted wanted)
+          (note_here isa source number old.plan.names at old.faulty line so_far.seen here));
+      plan = λ clean. rw (adds.addresses, adds.words, adds.values)
+          (plan_more isa source number old.plan.names at old.faulty line new.plan.names looked so_far.seen below here adds.looks
+          old.plan.addresses.items old.plan.words.items old.plan.values.items so_far.plan (sym adds.faulty_is ∙ clean));
+    }
 
 -- a line whose bytes are put, and one that overlaps
 pub puts-overlap : (finding : AsmCause → Finding) (old : List (Option Cell)) (number at : ℕ) (made : Result (List ℕ) AsmCause) (bytes : List ℕ) (told : Finding)

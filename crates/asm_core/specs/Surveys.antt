@@ -1,12 +1,14 @@
 -- What is found of the lines before a line while every fault of a source is looked for.
-use Rattle.std.specs.Prelude.{◌≡◌, ◌≤◌, ℕ, Bool, false, List, [], slice_index_or, if◌then◌else◌, Option, None, is_some, option_map, Result, Ok, Err}
+use Rattle.std.specs.Prelude.{◌≡◌, ◌≤◌, ℕ, Bool, false, List, [], ◌∷◌, ◌++◌, true, slice_index_or, if◌then◌else◌, Option, None, is_some, option_map, Result, Ok, Err}
 use Rattle.std.specs.Option.{option_or}
 use Rattle.std.specs.Result.{result_unwrap_or}
 use Rattle.asm_lex.specs.declared.shape.Isa.{Isa}
 use Rattle.asm_lex.specs.declared.shape.SymbolValue.{SymbolValue}
 use Rattle.asm_lex.specs.declared.shape.Word.{Word}
 use Rattle.asm_lex.specs.Names.{value_in}
+use Rattle.asm_lex.specs.Notes.{note_in}
 use Rattle.asm_core.specs.declared.findings.Finding.{Finding}
+use Rattle.asm_core.specs.declared.findings.First.{First}
 use Rattle.asm_core.specs.declared.findings.Looked.{Looked}
 use Rattle.asm_core.specs.declared.fault.AsmCause.{AsmCause}
 use Rattle.asm_core.specs.declared.layout.Laid.{Laid}
@@ -45,6 +47,28 @@ pub record Looks (isa : Isa) (old : Table) (at : ℕ) (faulty : Bool) (line : Li
   pub told : looked.finding ≡ finding_1 isa (seen old at faulty) line
   pub low : looked.laid.next ≤ 65536
   pub clean : looked.faulty ≡ false → (faulty ≡ false) × AddsLine isa old at line new looked.word looked.laid
+
+-- what pass 1 finds before the first line, which begins at an address
+pub record HasNoLines (first : First) (at : ℕ) : Type 0 where
+  pub names : first.plan.names ≡ []
+  pub addresses : first.plan.addresses.items ≡ at ∷ []
+  pub words : first.plan.words.items ≡ []
+  pub values : first.plan.values.items ≡ []
+  pub findings : first.told.findings.items ≡ []
+  pub notes : first.told.notes.items ≡ []
+  pub faultless : first.faulty ≡ false
+
+-- what is found of one more line, behind which the next one begins
+pub record AddsFound (isa : Isa) (old : First) (at : ℕ) (with_note : Bool) (line : List ℕ) (new : First) (next : ℕ) : Type 0 where
+  pub looked : Looked
+  pub looks : Looks isa old.plan.names at old.faulty line new.plan.names looked
+  pub next_is : next ≡ looked.laid.next
+  pub faulty_is : new.faulty ≡ looked.faulty
+  pub addresses : new.plan.addresses.items ≡ old.plan.addresses.items ++ looked.laid.next ∷ []
+  pub words : new.plan.words.items ≡ old.plan.words.items ++ looked.word ∷ []
+  pub values : new.plan.values.items ≡ old.plan.values.items ++ looked.laid.value ∷ []
+  pub findings : new.told.findings.items ≡ old.told.findings.items ++ looked.finding ∷ []
+  pub notes : with_note ≡ true → new.told.notes.items ≡ old.told.notes.items ++ note_in isa (value_in old.plan.names) line ∷ []
 
 -- in pass 2 the bytes of a line without a fault are put, and a faulty one is told
 pub record PutsLine (finding : AsmCause → Finding) (old new : List (Option Cell)) (number at : ℕ) (made : Result (List ℕ) AsmCause) (told : Option Finding)

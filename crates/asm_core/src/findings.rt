@@ -1,17 +1,15 @@
 //! Every fault of a source, each faulty line told once, by its first cause.
 
 ghost use Rattle.std.specs.Prelude.{◌≡◌, ◌≤◌, ◌<◌, ◌+◌, ◌++◌, ◌∷◌, [], ℕ, List, length, option_map, slice_index_or, true, false, None, Some, IfOk, OnOk, IfErr, Ok};
-ghost use Rattle.asm_lex.specs.Lines.{operands_of, Reads};
+ghost use Rattle.asm_lex.specs.Lines.{Reads};
 ghost use Rattle.asm_lex.specs.Names.{Names, value_in};
 ghost use Rattle.asm_lex.specs.Notes.{note_in};
-ghost use Rattle.asm_lex.specs.Parts.{code_of};
-ghost use Rattle.asm_lex.specs.Words.{HasItsOperands};
 ghost use Rattle.asm_core.specs.Encoding.{encoded};
 ghost use Rattle.asm_core.specs.Limits.{most_bytes};
 ghost use Rattle.asm_core.specs.Passes.{LaysOut, IsFound, line_plan, planned};
 ghost use Rattle.asm_core.specs.Sources.{source_lines};
 ghost use Rattle.asm_core.specs.Told.{label_if_name, guessed_label, with_colon, is_sure, sure_finding, finding_2, seen_at, kept_before, told_1, told_2, IsEachOf, AreTold, AreNoted, NothingTold, AgreesWithFaults};
-ghost use Rattle.asm_core.specs.Surveys.{Learns, Guesses, Looks, PutsLine};
+ghost use Rattle.asm_core.specs.Surveys.{Learns, Guesses, Looks, HasNoLines, AddsFound, PutsLine};
 
 use crate::culprit::{culprit_1, culprit_2, large_number};
 use crate::encode::{Bytes, byte_count, encode_line};
@@ -220,6 +218,51 @@ struct First {
     plan: Plan,
 }
 
+impl First {
+    // Before the first line, which begins at the address `at`.
+    fn new(alloc: Global, at: u32) -> Result<First, AllocError>
+        ensures { IfOk result (λ first. HasNoLines first at) }
+    {
+        let mut addresses = Vec::new(alloc);
+        addresses.push(at)?;
+        Ok(First {
+            told: Told {
+                findings: Vec::new(alloc),
+                notes: Vec::new(alloc),
+            },
+            faulty: false,
+            plan: Plan {
+                names: Symbols::new(alloc),
+                addresses,
+                words: Vec::new(alloc),
+                values: Vec::new(alloc),
+            },
+        })
+    }
+
+    // Adds what is found of one more line, which begins at the address `at`, and answers the address behind it.
+    fn add_line(
+        &mut self,
+        alloc: Global,
+        isa: Isa,
+        at: u32,
+        with_note: bool,
+        line: &[u8],
+    ) -> Result<u32, AllocError>
+        requires { at ≤ 65536 }
+        ensures { IfOk result (λ next. AddsFound isa self.old at with_note line.now self.new next) }
+    {
+        add_note(&mut self.told.notes, with_note, isa, &self.plan.names, line)?;
+        let looked = look_at(alloc, isa, &mut self.plan.names, at, self.faulty, line)?;
+        self.plan.addresses.push(looked.laid.next)?;
+        self.plan.words.push(looked.word)?;
+        self.plan.values.push(looked.laid.value)?;
+        self.told.findings.push(looked.finding)?;
+        self.faulty = looked.faulty;
+        Ok(looked.laid.next)
+    }
+}
+
 // Pass 1 over the lines of a source. It alone tells notes, where they are wanted.
 fn pass_1(alloc: Global, isa: Isa, text: &[u8], with_notes: bool) -> Result<First, AllocError>
     ensures few { IfOk result (λ first. length first.told.findings.items ≤ length text.now) }
@@ -229,37 +272,15 @@ fn pass_1(alloc: Global, isa: Isa, text: &[u8], with_notes: bool) -> Result<Firs
     ensures plan { IfOk result (λ first. first.faulty ≡ false →
         LaysOut isa (source_lines text.now) (length (source_lines text.now)) (planned first.plan)) }
 {
-    let mut names = Symbols::new(alloc);
-    let mut addresses = Vec::new(alloc);
-    let mut words = Vec::new(alloc);
-    let mut values = Vec::new(alloc);
-    let mut findings = Vec::new(alloc);
-    let mut notes = Vec::new(alloc);
     let mut at = origin_of(isa);
-    let mut faulty = false;
+    let mut first = First::new(alloc, at)?;
     let mut rest = text;
-    addresses.push(at)?;
     while let Some((line, more)) = next_line(rest) {
-        add_note(&mut notes, with_notes, isa, &names, line)?;
-        let looked = look_at(alloc, isa, &mut names, at, faulty, line)?;
-        addresses.push(looked.laid.next)?;
-        words.push(looked.word)?;
-        values.push(looked.laid.value)?;
-        findings.push(looked.finding)?;
-        at = looked.laid.next;
-        faulty = looked.faulty;
+        let next = first.add_line(alloc, isa, at, with_notes, line)?;
+        at = next;
         rest = more;
     }
-    Ok(First {
-        told: Told { findings, notes },
-        faulty,
-        plan: Plan {
-            names,
-            addresses,
-            words,
-            values,
-        },
-    })
+    Ok(first)
 }
 
 fn finding_2(
@@ -270,9 +291,7 @@ fn finding_2(
     line: &[u8],
     cause: AsmCause,
 ) -> Finding
-    requires operands { HasItsOperands isa word (operands_of (code_of line.now)) }
     requires short { length line.now ≤ 255 }
-    requires few { length (operands_of (code_of line.now)) ≤ 128 }
     requires at { at ≤ 65536 }
     ensures { result ≡ finding_2 isa (value_in names.now) at word line.now cause }
 {
