@@ -1,6 +1,6 @@
 //! The place of what is wrong in a faulty line.
 
-ghost use Rattle.std.specs.Prelude.{◌≡◌, ◌≤◌, length, slice_get, unwrap_or};
+ghost use Rattle.std.specs.Prelude.{◌≡◌, ◌≤◌, ℕ, List, length, slice_get, unwrap_or};
 ghost use Rattle.asm_lex.specs.Culprits.{is_sought, first_term};
 ghost use Rattle.asm_lex.specs.Names.{value_in};
 ghost use Rattle.asm_lex.specs.Spans.{text_at, IsWithin, AreWithin};
@@ -137,7 +137,8 @@ pub(crate) fn large_number(isa: Isa, names: &Symbols, line: &[u8]) -> Option<Pla
 
 // The operands that stand for numbers: in an instruction of CHIP-8 the last one.
 fn number_spans(word: Option<Word>, spans: &[Span]) -> &[Span]
-    ensures { result.now ≡ number_spans word spans.now }
+    ensures spans { result.now ≡ number_spans word spans.now }
+    ensures within { (line : List ℕ) → AreWithin line spans.now → AreWithin line result.now }
 {
     match word {
         Some(Word::Instruction(_)) => &spans[spans.len().saturating_sub(1)..],
