@@ -54,6 +54,16 @@ struct Node {
     behind: Option<usize>,
 }
 
+/// What comes of following a claim.
+enum Followed {
+    /// The points behind it are met.
+    Met,
+    /// It stops, or I may pass FFFF.
+    Blocked,
+    /// No more points are followed.
+    Full,
+}
+
 /// The points met so far.
 #[derive(Drop)]
 pub struct Search<'a> {
@@ -118,7 +128,7 @@ impl Search<'_> {
         Some(place)
     }
 
-    // MayBeMet the points behind a node.
+    // Follows a node to the points behind it.
     fn follow(&mut self, alloc: Global, place: usize) -> Result<(), FindFault>
         requires { AllMet self.now }
         ensures stays { OnOk result (StaysMet self.old self.new) }
@@ -127,24 +137,36 @@ impl Search<'_> {
         let Some(claim) = self.take_claim(place) else {
             return Ok(());
         };
-        let Some(instr) = instr_of(self.edition, self.game, &claim) else {
-            return Err(fault_at(self.edition, self.game, &[], 0, claim));
+        match self.meet_behind(&claim)? {
+            Followed::Met => Ok(()),
+            Followed::Blocked => Err(fault_at(self.edition, self.game, &[], 0, claim)),
+            Followed::Full => {
+                let found = self.claims(alloc)?;
+                Err(fault_at(self.edition, self.game, found.as_slice(), 0, claim))
+            }
+        }
+    }
+
+    // Meets the points behind a claim.
+    fn meet_behind(&mut self, claim: &Claim) -> Result<Followed, AllocError>
+        requires all_met { AllMet self.now }
+        requires met { MayBeMet self.now.edition self.now.game.now claim.now }
+        ensures { OnOk result (StaysMet self.old self.new) }
+    {
+        let Some(instr) = instr_of(self.edition, self.game, claim) else {
+            return Ok(Followed::Blocked);
         };
-        let low = low_after(&instr, &claim);
-        let high = high_after(&instr, &claim);
+        let low = low_after(&instr, claim);
+        let high = high_after(&instr, claim);
         if low.max(high) > u32::from(LAST_ADDRESS) {
-            return Err(fault_at(self.edition, self.game, &[], 0, claim));
+            return Ok(Followed::Blocked);
         }
         let (first, second) = next_points(&instr, &claim.point);
         let mut met = self.meet(first, low as u16, high as u16)?;
         if let Some(second) = second {
             met &= self.meet(second, low as u16, high as u16)?;
         }
-        if met {
-            return Ok(());
-        }
-        let found = self.claims(alloc)?;
-        Err(fault_at(self.edition, self.game, found.as_slice(), 0, claim))
+        Ok(if met { Followed::Met } else { Followed::Full })
     }
 
     // Takes the claim of a node that is followed now, so that the node no longer waits.
