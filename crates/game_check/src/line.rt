@@ -17,14 +17,13 @@ pub fn read_line(line: &[u8]) -> Result<Option<Claim>, ProofCause>
     ensures { result ≡ said line.now }
 {
     let mut words = Words::new(line);
-    let Some(first) = words.next() else {
-        return Ok(None);
-    };
-    if let [b'#', ..] = first {
-        return Ok(None);
+    match words.next() {
+        None | Some([b'#', ..]) => Ok(None),
+        Some(first) => {
+            let claim = read_claim(first, words)?;
+            Ok(Some(claim))
+        }
     }
-    let claim = read_claim(first, words)?;
-    Ok(Some(claim))
 }
 
 // The claim of a line that begins with this word and goes on with these.

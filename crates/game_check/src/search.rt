@@ -83,12 +83,7 @@ pub fn search_claims(alloc: Global, edition: Edition, game: &[u8]) -> Result<Vec
     ensures fault { IfErr result (IsFindFault edition game.now) }
 {
     let mut search = start(alloc, edition, game)?;
-    for _ in 0..MOST_TURNS {
-        let Some(place) = search.next_waiting() else {
-            break;
-        };
-        search.follow(alloc, place)?;
-    }
+    search.run(alloc)?;
     let claims = search.claims(alloc)?;
     Ok(claims)
 }
@@ -119,13 +114,30 @@ fn start<'a>(alloc: Global, edition: Edition, game: &'a [u8]) -> Result<Search<'
 }
 
 impl Search<'_> {
+    // Follows the nodes that wait, until none does.
+    fn run(&mut self, alloc: Global) -> Result<(), FindFault>
+        requires { AllMet self.now }
+        ensures stays { OnOk result (StaysMet self.old self.new) }
+        ensures fault { IfErr result (IsFindFault self.old.edition self.old.game.now) }
+    {
+        for _ in 0..MOST_TURNS {
+            let Some(place) = self.next_waiting() else {
+                break;
+            };
+            self.follow(alloc, place)?;
+        }
+        Ok(())
+    }
+
     // The next node to be followed.
     fn next_waiting(&mut self) -> Option<usize>
         requires { AllMet self.now }
         ensures { StaysMet self.old self.new }
     {
-        let Reverse((_, place)) = self.waiting.pop()?;
-        Some(place)
+        match self.waiting.pop() {
+            Some(Reverse((_, place))) => Some(place),
+            None => None,
+        }
     }
 
     // Follows a node to the points behind it.
@@ -175,7 +187,9 @@ impl Search<'_> {
         ensures stays { StaysMet self.old self.new }
         ensures met { IfSome result (MayBeMet self.old.edition self.old.game.now) }
     {
-        let node = self.nodes.get_mut(place)?;
+        let Some(node) = self.nodes.get_mut(place) else {
+            return None;
+        };
         node.waits = false;
         Some(node.claim.copy())
     }
@@ -200,8 +214,12 @@ impl Search<'_> {
     {
         let mut place = first_in(self.chains.as_slice(), chain_of(point));
         for _ in 0..self.nodes.len() {
-            let at = place?;
-            let node = self.nodes.get(at)?;
+            let Some(at) = place else {
+                return None;
+            };
+            let Some(node) = self.nodes.get(at) else {
+                return None;
+            };
             if node.claim.point.order(point).is_eq() {
                 return Some(at);
             }
@@ -233,8 +251,8 @@ impl Search<'_> {
         let place = self.nodes.len();
         let chain = chain_of(&claim.point);
         let behind = first_in(self.chains.as_slice(), chain);
-        if let Some(first) = self.chains.get_mut(chain) {
-            *first = Some(place);
+        if chain < self.chains.len() {
+            self.chains[chain] = Some(place);
         }
         self.waiting.push(Reverse((claim.point.pc, place)))?;
         self.nodes.push(Node {
