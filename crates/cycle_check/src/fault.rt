@@ -7,31 +7,36 @@ ghost use Rattle.cycle_check.specs.FaultNames.{cert_cause_name, timing_cause_nam
 
 use crate::closed::bytes_at;
 use std::alloc::AllocError;
-use std::error::Error;
-use std::fmt;
+use thiserror::Error;
 
 /// What is wrong with a line of a certificate. The first three are looked for line by line over all lines, in this order in a line; then
 /// `NoEntry`; and then the last two, again line by line.
-#[derive(Clone, Copy, Debug)]
+#[derive(Clone, Copy, Debug, Error)]
 pub enum CertCause {
     /// The first line that says something is no `within` line, or a later one is no line of an address; or no line says anything, which is
     /// said of line 1.
+    #[error("BadLine")]
     BadLine,
     /// A number is not of its digits or out of its range, or the counter register is the program counter.
+    #[error("BadNumber")]
     BadNumber,
     /// The address is not above that of the line before.
+    #[error("Order")]
     Order,
     /// No line has the entry; or its line asks for an X or for a fact, or leaves more cycles than the limit at a counter of 255.
+    #[error("NoEntry")]
     NoEntry,
     /// The opcode at the address is not allowed: a byte of the instruction lies outside the ROM, or the instruction idles, or could change
     /// the program counter or the counter register by another way than its row names.
+    #[error("Opcode")]
     Opcode,
     /// What the line says does not follow from what the lines behind its instruction say.
+    #[error("Step")]
     Step,
 }
 
 impl CertCause {
-    /// Its name, which its text and the reports show.
+    /// Its name, which the reports show and its text is.
     pub fn name(self) -> &'static str
         ensures { result.now ≡ cert_cause_name self }
     {
@@ -46,17 +51,8 @@ impl CertCause {
     }
 }
 
-// By hand, since a derive writes and has proved an arm for each variant.
-impl fmt::Display for CertCause {
-    fn fmt<W: fmt::Write>(&self, f: &mut fmt::Formatter<W>) -> fmt::Result {
-        f.write_str(self.name())
-    }
-}
-
-impl Error for CertCause {}
-
 /// Why a certificate is not accepted.
-#[derive(Clone, Copy, Debug, thiserror::Error)]
+#[derive(Clone, Copy, Debug, Error)]
 pub enum CertFault {
     /// The first fault, with the number of its line, counted from 1.
     #[error("line {line}: {cause}")]
@@ -78,20 +74,24 @@ impl From<AllocError> for CertFault {
 }
 
 /// Why no certificate of a routine was found.
-#[derive(Clone, Copy, Debug)]
+#[derive(Clone, Copy, Debug, Error)]
 pub enum TimingCause {
     /// Ways lead to the address, and no line is allowed there with an X that all of them give.
+    #[error("Opcode")]
     Opcode,
     /// A turn leads from the address back to it that isn't counted: none of its instructions assigns the counter, or one of them may raise it.
+    #[error("Loop")]
     Loop,
     /// The least BASE at the address, or its STEP, passes 1,000,000.
+    #[error("Most")]
     Most,
     /// Ways lead to the address, and the lines that say one fact each of those that are known are no certificate.
+    #[error("Fact")]
     Fact,
 }
 
 impl TimingCause {
-    /// Its name, which its text and the reports show.
+    /// Its name, which the reports show and its text is.
     pub fn name(self) -> &'static str
         ensures { result.now ≡ timing_cause_name self }
     {
@@ -103,14 +103,6 @@ impl TimingCause {
         }
     }
 }
-
-impl fmt::Display for TimingCause {
-    fn fmt<W: fmt::Write>(&self, f: &mut fmt::Formatter<W>) -> fmt::Result {
-        f.write_str(self.name())
-    }
-}
-
-impl Error for TimingCause {}
 
 /// Where no certificate of a routine was found: why, at which address, and the bytes of the ROM from there on.
 #[derive(Clone, Copy)]
