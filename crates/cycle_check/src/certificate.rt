@@ -4,7 +4,7 @@ ghost use Rattle.std.specs.Prelude.{◌≡◌, ◌≤◌, ◌⊎◌, ◌++◌, i
 ghost use Rattle.std.specs.Str.Lines.{lines};
 ghost use Rattle.vip_byte.specs.Reading.{read};
 ghost use Rattle.vip_byte.specs.Text.{words};
-ghost use Rattle.cycle_check.specs.Certificate.{certificate_format, certificate_of, is_behind, next_of, numbers_from, said, stated};
+ghost use Rattle.cycle_check.specs.Certificate.{certificate_format, certificate_of, is_behind, next_of, numbers_from, said};
 ghost use Rattle.cycle_check.specs.Reading.{IsRead, AreRising, FollowsIn, extended};
 
 use crate::fault::{CertCause, CertFault};
@@ -119,8 +119,15 @@ fn next_statement(before: &Draft, line: &[u8]) -> Result<Option<Statement>, Cert
     if !says_something(line) {
         return Ok(None);
     }
-    let statement = read_statement(before, Words::new(line))?;
-    Ok(Some(statement))
+    let words = Words::new(line);
+    if before.bound().is_none() {
+        return Ok(Some(Statement::Within(read_bound(words)?)));
+    }
+    let line = read_line(words)?;
+    if !is_behind(before.lines(), line.address) {
+        return Err(CertCause::Order);
+    }
+    Ok(Some(Statement::At(line)))
 }
 
 // Whether a line has a word, and the first is no remark.
@@ -131,22 +138,6 @@ fn says_something(line: &[u8]) -> bool
     match Words::new(line).next() {
         None | Some([b'#', ..]) => false,
         Some(_) => true,
-    }
-}
-
-fn read_statement(before: &Draft, words: Words) -> Result<Statement, CertCause>
-    ensures value { result ≡ stated before.now.bound before.now.lines words.entry }
-    ensures follows { IfOk result (λ statement. FollowsIn before.now.lines (Some statement)) }
-{
-    match before.bound() {
-        None => Ok(Statement::Within(read_bound(words)?)),
-        Some(_) => {
-            let line = read_line(words)?;
-            if !is_behind(before.lines(), line.address) {
-                return Err(CertCause::Order);
-            }
-            Ok(Statement::At(line))
-        }
     }
 }
 
