@@ -5,8 +5,8 @@
 //! behind that; it runs nothing. The format and the rules are this project's profile (`docs/SOURCES.md`), the instructions those of RCA's
 //! data sheet of the CDP1802.
 //!
-//! The crate stands on the definitions of `machine`, on `vip_isa`, on `vip_byte` and on the kit's `thiserror`. The layers above may rely on
-//! this: an answer is the one of `specs/Closed.antt`, want of memory aside, and a certificate that is accepted holds of the machine's
+//! The crate stands on the definitions of `machine`, on `vip_isa`, on `vip_byte` and on the kit's `arrayvec` and `thiserror`. The layers above may
+//! rely on this: an answer is the one of `specs/Closed.antt`, want of memory aside, and a certificate that is accepted holds of the machine's
 //! instruction semantics (`specs/Leaving.antt`): from every state at its entry, with the boot latch clear, instruction moves that each start at a
 //! listed address with its program counter take no more cycles than its limit, whatever the flags and the bytes from ports are. DMA and interrupts
 //! aren't counted.
@@ -74,8 +74,8 @@ pub fn check_cycles(alloc: Global, rom: &[u8; 2048], text: &[u8]) -> Result<With
         (λ fault. (fault ≡ CertFault.NoMemory) ⊎ (checked rom.now text.now ≡ Err fault)) }
     ensures within { IfOk result (λ within. IsWithin rom.now text.now within) }
 {
-    let (bound, _) = accept(alloc, rom, text)?;
-    Ok(promise(&bound))
+    let (within, _, _) = accept(alloc, rom, text)?;
+    Ok(within)
 }
 
 /// Checks a certificate as `check_cycles` does, and gives its exits with what it promises: for each line and next address without a line that
@@ -92,30 +92,20 @@ pub fn check_exits(
         (λ fault. (fault ≡ CertFault.NoMemory) ⊎ (checked rom.now text.now ≡ Err fault)) }
     ensures within { IfOk result (λ answer. IsWithin rom.now text.now answer.0) }
 {
-    let (bound, certificate) = accept(alloc, rom, text)?;
+    let (within, bound, certificate) = accept(alloc, rom, text)?;
     let exits = exits_of(alloc, rom, &bound, certificate.lines())?;
-    Ok((promise(&bound), exits))
+    Ok((within, exits))
 }
 
-// What an accepted certificate promises.
-fn promise(bound: &Bound) -> Within
-    ensures { result ≡ record { entry = bound.now.entry; limit = bound.now.limit } }
-{
-    Within {
-        entry: bound.entry,
-        limit: bound.limit,
-    }
-}
-
-// A certificate that is accepted, with its bound.
-fn accept(alloc: Global, rom: &[u8; 2048], text: &[u8]) -> Result<(Bound, Draft), CertFault>
+// What an accepted certificate promises, with its bound and what was read of it.
+fn accept(alloc: Global, rom: &[u8; 2048], text: &[u8]) -> Result<(Within, Bound, Draft), CertFault>
     requires { length text.now ≤ MOST_TEXT }
-    ensures accepted { IfOk result (λ got. checked rom.now text.now ≡ Ok (record { entry = got.0.entry; limit = got.0.limit })) }
-    ensures read { IfOk result (λ got. IsRead text.now got.1) }
-    ensures bound { IfOk result (λ got. got.1.bound ≡ Some got.0) }
+    ensures accepted { IfOk result (λ got. checked rom.now text.now ≡ Ok got.0) }
+    ensures read { IfOk result (λ got. IsRead text.now got.2) }
+    ensures bound { IfOk result (λ got. got.2.bound ≡ Some got.1) }
     ensures fault { IfErr result
         (λ fault. (fault ≡ CertFault.NoMemory) ⊎ (checked rom.now text.now ≡ Err fault)) }
-    ensures within { IfOk result (λ got. IsWithin rom.now text.now (record { entry = got.0.entry; limit = got.0.limit })) }
+    ensures within { IfOk result (λ got. IsWithin rom.now text.now got.0) }
 {
     let certificate = read_certificate(alloc, text)?;
     let Some(bound) = certificate.bound() else {
@@ -129,6 +119,12 @@ fn accept(alloc: Global, rom: &[u8; 2048], text: &[u8]) -> Result<(Bound, Draft)
             line: statement_number(text, place),
             cause,
         }),
-        None => Ok((bound, certificate)),
+        None => {
+            let within = Within {
+                entry: bound.entry,
+                limit: bound.limit,
+            };
+            Ok((within, bound, certificate))
+        }
     }
 }
