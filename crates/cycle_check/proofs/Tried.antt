@@ -1,6 +1,5 @@
 -- What a certificate that is found says, as it is read.
-use Rattle.std.proofs.Common.{◌≡◌, ℕ, ◌⊎◌, inl, inr, List, Option, true, Some, None, Ok, Err, refl, sym, ap, subst, ◌∙◌}
-use Rattle.std.specs.Prelude.{is_some}
+use Rattle.std.proofs.Common.{◌≡◌, ℕ, ◌⊎◌, inl, inr, List, Option, Some, None, Ok, Err, refl, sym, ap, subst, ◌∙◌}
 use Rattle.std.proofs.lemmas.Option.{same_Some}
 use Rattle.std.specs.List.{All}
 use Rattle.std.specs.Str.Lines.{lines}
@@ -48,10 +47,6 @@ module _ (rom text : List ℕ) (entry p k : ℕ) (draft : Certificate) (read : I
   pub is_accepted : (bound : Bound) → draft.bound ≡ Some bound → fault_in rom bound draft.lines ≡ None
   is_accepted bound bounded =
       no_fault (numbers_from 1 (lines text)) bound (fault_in rom bound draft.lines) (sym (checked-judged rom text draft bound read bounded) ∙ found.accepted)
-
-pub not_some : {X : Type 0} (o : Option X) → o ≡ None → is_some o ≡ true → ⊥
-not_some None none some = cc
-not_some (Some x) none some = cc
 
 -- what isn't read is no certificate
 pub not_read : (text : List ℕ) (statements : List (List (List ℕ))) (line : ℕ) (cause : CertCause)

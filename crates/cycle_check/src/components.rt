@@ -1,53 +1,57 @@
 //! The strongly connected components of a routine, from its leaves back, and the turns in them that aren't counted.
 
 use crate::forward::ROM_SIZE;
-use crate::graph::Graph;
+use crate::graph::{Graph, Node, PLACES};
 use std::alloc::{AllocError, Global};
 
-/// A line's place in the order in which costs are found.
+/// A line in the order in which costs are found. Its component is behind those that it leads to, and it is behind the lines of its component that it
+/// leads to without taking from the counter.
 #[derive(Clone, Copy)]
-struct Member {
-    // how many places its component leads to, and the first place of its component
-    component: (usize, usize),
-    // how many places it leads to without taking from the counter
-    rank: usize,
-    place: usize,
-}
-
-/// A strongly connected component of a routine. Its places come behind those that they lead to without taking from the counter.
-#[derive(Drop)]
-pub struct Component {
-    pub places: Vec<usize>,
+pub struct Member {
+    pub place: u16,
+    pub node: Node,
+    /// How many places its component leads to, and the first place of its component.
+    pub component: (usize, u16),
     /// Whether it leads back to itself.
     pub is_loop: bool,
+    // how many places it leads to without taking from the counter
+    rank: usize,
 }
 
-/// The components of a routine, each behind those that it leads to; or a turn that isn't counted: addresses each of which leads to the next one, and
-/// the last one to the first.
+/// The lines of a routine, each component behind those that it leads to; or a turn that isn't counted: addresses each of which leads to the next one,
+/// and the last one to the first.
 #[derive(Drop)]
 pub enum Found {
-    Components(Vec<Component>),
+    Members(Vec<Member>),
     Turn(Vec<u16>),
 }
 
-// For each place to which others it leads.
+// For each place with a line from which ones those were met first to which it leads.
 #[derive(Drop)]
 struct Reach {
-    marks: Vec<Vec<bool>>,
+    sources: Vec<Vec<Option<u16>>>,
 }
 
 impl Reach {
-    fn leads(&self, from: usize, to: usize) -> bool {
-        match self.marks.get(from) {
-            Some(marks) => matches!(marks.get(to), Some(true)),
-            None => false,
+    // From which place one was met first on the ways from a start on.
+    fn source(&self, start: u16, place: u16) -> Option<u16> {
+        let Some(sources) = self.sources.get(usize::from(start)) else {
+            return None;
+        };
+        match sources.get(usize::from(place)) {
+            Some(source) => *source,
+            None => None,
         }
     }
 
+    fn leads(&self, from: u16, to: u16) -> bool {
+        self.source(from, to).is_some()
+    }
+
     // How many places a place leads to, itself among them.
-    fn count(&self, place: usize) -> usize {
+    fn count(&self, place: u16) -> usize {
         let mut count = 0usize;
-        for other in 0..ROM_SIZE {
+        for other in 0..PLACES {
             if other == place || self.leads(place, other) {
                 count = count.saturating_add(1);
             }
@@ -56,7 +60,7 @@ impl Reach {
     }
 
     // The first place of the component of a place.
-    fn first(&self, place: usize) -> usize {
+    fn first(&self, place: u16) -> u16 {
         for other in 0..place {
             if self.leads(place, other) && self.leads(other, place) {
                 return other;
@@ -64,113 +68,90 @@ impl Reach {
         }
         place
     }
+
+    // The turn from a place back to it.
+    fn turn_at(&self, alloc: Global, place: u16) -> Result<Found, AllocError> {
+        let mut turn = Vec::new(alloc);
+        let mut at = place;
+        for _ in 0..ROM_SIZE {
+            let Some(source) = self.source(place, at) else {
+                break;
+            };
+            at = source;
+            turn.push(0x8000 + at % PLACES)?;
+            if at == place {
+                break;
+            }
+        }
+        turn.reverse();
+        Ok(Found::Turn(turn))
+    }
 }
 
 /// Finds the components of a routine, or a turn in it that isn't counted.
 pub fn find_components(alloc: Global, graph: &Graph) -> Result<Found, AllocError> {
     let reach = reach_of(alloc, graph, true)?;
     let unpaid = reach_of(alloc, graph, false)?;
-    if let Some((place, counts)) = first_turn(graph, &reach, &unpaid) {
-        return turn_at(alloc, graph, place, counts);
+    found_by(alloc, graph, &reach, &unpaid)
+}
+
+// By all ways, or only by those of lines that don't take from the counter.
+fn reach_of(alloc: Global, graph: &Graph, counts: bool) -> Result<Reach, AllocError> {
+    let mut sources = Vec::new(alloc);
+    for place in 0..PLACES {
+        sources.push(graph.sources(alloc, place, counts)?)?;
     }
-    let members = members_of(alloc, graph, &reach, &unpaid)?;
-    let components = gather(alloc, members.as_slice(), &reach)?;
-    Ok(Found::Components(components))
+    Ok(Reach { sources })
+}
+
+// The turn that isn't counted whose place is the first, or the lines where there is none.
+fn found_by(
+    alloc: Global,
+    graph: &Graph,
+    reach: &Reach,
+    unpaid: &Reach,
+) -> Result<Found, AllocError> {
+    match first_turn(graph, reach, unpaid) {
+        Some((place, true)) => reach.turn_at(alloc, place),
+        Some((place, false)) => unpaid.turn_at(alloc, place),
+        None => members_of(alloc, graph, reach, unpaid),
+    }
 }
 
 // The first place from which a turn that isn't counted leads back to it, and whether the turn may take from the counter.
-fn first_turn(graph: &Graph, reach: &Reach, unpaid: &Reach) -> Option<(usize, bool)> {
-    for place in 0..ROM_SIZE {
-        if unpaid.leads(place, place) {
-            return Some((place, false));
-        }
-        if reach.leads(place, place) && graph.assigns(place) {
-            return Some((place, true));
+fn first_turn(graph: &Graph, reach: &Reach, unpaid: &Reach) -> Option<(u16, bool)> {
+    for place in 0..PLACES {
+        if let Some(node) = graph.node(place) {
+            if unpaid.leads(place, place) {
+                return Some((place, false));
+            }
+            if node.assigns && reach.leads(place, place) {
+                return Some((place, true));
+            }
         }
     }
     None
 }
 
-// The lines' places, in the order in which costs are found.
+// The lines in the order in which costs are found.
 fn members_of(
     alloc: Global,
     graph: &Graph,
     reach: &Reach,
     unpaid: &Reach,
-) -> Result<Vec<Member>, AllocError> {
+) -> Result<Found, AllocError> {
     let mut members = Vec::new(alloc);
-    for place in 0..ROM_SIZE {
-        if graph.node(place).is_some() {
+    for place in 0..PLACES {
+        if let Some(node) = graph.node(place) {
             members.push(Member {
-                component: (reach.count(place), reach.first(place)),
-                rank: unpaid.count(place),
                 place,
+                node,
+                component: (reach.count(place), reach.first(place)),
+                is_loop: reach.leads(place, place),
+                rank: unpaid.count(place),
             })?;
         }
     }
     members.sort_unstable_by(|a, b| a.component.cmp(&b.component).then(a.rank.cmp(&b.rank)));
-    Ok(members)
-}
-
-// By all ways, or only by those of lines that don't take from the counter.
-fn reach_of(alloc: Global, graph: &Graph, counts: bool) -> Result<Reach, AllocError> {
-    let mut marks = Vec::new(alloc);
-    for place in 0..ROM_SIZE {
-        marks.push(marks_of(alloc, graph, place, counts)?)?;
-    }
-    Ok(Reach { marks })
-}
-
-// For each place whether a start leads to it; none without a line there.
-fn marks_of(
-    alloc: Global,
-    graph: &Graph,
-    start: usize,
-    counts: bool,
-) -> Result<Vec<bool>, AllocError> {
-    let mut marks = Vec::new(alloc);
-    if graph.node(start).is_some() {
-        for source in graph.sources(alloc, start, counts)?.as_slice() {
-            marks.push(source.is_some())?;
-        }
-    }
-    Ok(marks)
-}
-
-// The components of members that stand in order.
-fn gather(alloc: Global, members: &[Member], reach: &Reach) -> Result<Vec<Component>, AllocError> {
-    let mut components = Vec::new(alloc);
-    let mut last = None;
-    for member in members {
-        if last != Some(member.component) {
-            components.push(Component {
-                places: Vec::new(alloc),
-                is_loop: reach.leads(member.place, member.place),
-            })?;
-            last = Some(member.component);
-        }
-        if let Some(component) = components.last_mut() {
-            component.places.push(member.place)?;
-        }
-    }
-    Ok(components)
-}
-
-// The turn from a place back to it.
-fn turn_at(alloc: Global, graph: &Graph, place: usize, counts: bool) -> Result<Found, AllocError> {
-    let sources = graph.sources(alloc, place, counts)?;
-    let mut turn = Vec::new(alloc);
-    let mut at = place;
-    for _ in 0..ROM_SIZE {
-        let Some(Some(source)) = sources.get(at) else {
-            break;
-        };
-        at = *source;
-        turn.push(0x8000 + (at % ROM_SIZE) as u16)?;
-        if at == place {
-            break;
-        }
-    }
-    turn.reverse();
-    Ok(Found::Turn(turn))
+    Ok(Found::Members(members))
 }

@@ -2,17 +2,17 @@
 
 ghost use Rattle.std.specs.Prelude.{◌≡◌, ◌<◌, ◌≤◌, ◌⊎◌, ◌++◌, ◌∷◌, [], ◌≢◌, true, false, length, IfOk, IfErr, IfSome, OnOk, None, Some};
 ghost use Rattle.std.specs.List.{All};
-ghost use Rattle.cycle_check.specs.declared.fault.TimingFault.TheVariants.{NoMemory};
 ghost use Rattle.cycle_check.specs.Forward.{IsTrueOf};
-ghost use Rattle.cycle_check.specs.Found.{FailsWith, HasLimit, IsFound, IsOfWays, IsTimingFault};
-ghost use Rattle.cycle_check.specs.Obstacles.{IsLeast, IsLed, IsMost, IsUncounted};
+ghost use Rattle.cycle_check.specs.Closed.{fault_in};
+ghost use Rattle.cycle_check.specs.Found.{HasLimit, IsFound, IsOfWays, IsTimingFault, leaves_rom, timing_text};
+ghost use Rattle.cycle_check.specs.Obstacles.{IsLeast, IsLed, IsMost};
 ghost use Rattle.cycle_check.specs.Reading.{AreRising, IsRead};
 
 use crate::certificate::{Draft, is_behind, read_certificate};
 use crate::closed::{fault_in, first_cause, instruction_at, is_closed, left, line_at};
 use crate::components::{Found, find_components};
 use crate::cost::find_costs;
-use crate::exits::{all_leave_rom, exits_of};
+use crate::exits::{Exit, all_leave_rom, exits_of};
 use crate::fault::{CertFault, TimingCause, TimingFault, obstacle};
 use crate::forward::{Forward, explore};
 use crate::grammar::{Bound, Line, MOST_LEFT};
@@ -57,36 +57,36 @@ fn find_in(alloc: Global, forward: &Forward) -> Result<Vec<u8>, TimingFault>
     ensures fault { IfErr result (IsTimingFault forward.now.rom.now forward.now.bound) }
 {
     let mut graph = graph_of(alloc, forward)?;
-    let mut last = forward.bound.entry;
-    match find_components(alloc, &graph)? {
-        Found::Turn(turn) => {
-            if let Some(address) = uncounted_in(forward, turn.as_slice()) {
-                return Err(obstacle(forward.rom, TimingCause::Loop, address));
-            }
-            last = first_of(turn.as_slice(), last);
-        }
-        Found::Components(components) => find_costs(&mut graph, components.as_slice()),
-    }
+    let last = settle_costs(alloc, forward, &mut graph)?;
     let lines = lines_of(alloc, forward, &graph)?;
     certify(alloc, forward, lines.as_slice(), last)
 }
 
-// The first address of a turn that isn't counted.
-fn uncounted_in(forward: &Forward, turn: &[u16]) -> Option<u16>
+// Finds what is left at each line, or a turn that isn't counted. The answer is the last address that was looked at.
+fn settle_costs(alloc: Global, forward: &Forward, graph: &mut Graph) -> Result<u16, TimingFault>
     requires { IsTrueOf forward.now }
-    ensures { IfSome result (λ address. IsUncounted forward.now.rom.now forward.now.bound address) }
+    ensures { IfErr result (IsTimingFault forward.now.rom.now forward.now.bound) }
 {
-    match turn {
-        [address, ..] if forward.is_uncounted(turn) => Some(*address),
-        _ => None,
+    match find_components(alloc, graph)? {
+        Found::Turn(turn) => first_of(forward, turn.as_slice()),
+        Found::Members(members) => {
+            find_costs(graph, members.as_slice());
+            Ok(forward.bound.entry)
+        }
     }
 }
 
-// The first address of a turn, which assigns the counter where one of them does.
-fn first_of(turn: &[u16], other: u16) -> u16 {
+// The first address of a turn, which assigns the counter where one of them does; or that the turn isn't counted.
+fn first_of(forward: &Forward, turn: &[u16]) -> Result<u16, TimingFault>
+    requires { IsTrueOf forward.now }
+    ensures { IfErr result (IsTimingFault forward.now.rom.now forward.now.bound) }
+{
     match turn {
-        [address, ..] => *address,
-        [] => other,
+        [address, ..] if forward.is_uncounted(turn) => {
+            Err(obstacle(forward.rom, TimingCause::Loop, *address))
+        }
+        [address, ..] => Ok(*address),
+        [] => Ok(forward.bound.entry),
     }
 }
 
@@ -109,7 +109,7 @@ fn lines_of(alloc: Global, forward: &Forward, graph: &Graph) -> Result<Vec<Line>
 fn with_costs(graph: &Graph, line: Line) -> Line
     ensures { result ≡ record line { base = result.base; step = result.step } }
 {
-    match graph.node(usize::from(line.address.saturating_sub(0x8000))) {
+    match graph.node(line.address.saturating_sub(0x8000)) {
         Some(node) => Line {
             base: node.line.base,
             step: node.line.step,
@@ -148,9 +148,13 @@ fn certify(
     if let Some(address) = most_in(forward, lines) {
         return Err(obstacle(forward.rom, TimingCause::Most, address));
     }
-    match write_checked(alloc, forward.rom, &forward.bound, lines)? {
-        Some(text) => Ok(text),
-        None => Err(obstacle(forward.rom, TimingCause::Fact, led_of(forward, last))),
+    let bound = bound_with(&forward.bound, lines);
+    let text = timing_text(alloc, forward.rom, &bound, lines)?;
+    let is_found = is_certificate(alloc, forward.rom, &forward.bound, text.as_slice())?;
+    if is_found {
+        Ok(text)
+    } else {
+        Err(obstacle(forward.rom, TimingCause::Fact, led_of(forward, last)))
     }
 }
 
@@ -229,35 +233,18 @@ fn is_least(rom: &[u8], bound: &Bound, lines: &[Line], line: &Line) -> bool
     !is_closed(bound, lines, &less, &instruction_at(rom, line.address))
 }
 
-// The text of a certificate with these lines, where it is one whose exits lead out of the ROM.
-fn write_checked(
+// The text of a certificate, with its exits.
+fn timing_text(
     alloc: Global,
     rom: &[u8],
-    start: &Bound,
+    bound: &Bound,
     lines: &[Line],
-) -> Result<Option<Vec<u8>>, TimingFault>
+) -> Result<Vec<u8>, AllocError>
     requires { AreRising lines.now }
-    ensures found { IfOk result (λ found. IfSome found (λ text. IsFound rom.now start.now.entry start.now.p start.now.k text.items)) }
-    ensures none { IfOk result (λ found. found ≡ None → FailsWith rom.now start.now lines.now) }
-    ensures fault { IfErr result (λ fault. fault ≡ NoMemory) }
+    ensures { IfOk result (λ text. text.items ≡ timing_text rom.now bound.now lines.now) }
 {
-    let bound = bound_with(start, lines);
-    let exits = exits_of(alloc, rom, &bound, lines)?;
-    let text = text_of(alloc, &bound, lines, exits.as_slice())?;
-    if text.len() > MOST_TEXT {
-        return Ok(None);
-    }
-    match read_certificate(alloc, text.as_slice()) {
-        Ok(draft) => {
-            if is_found(alloc, rom, start, &draft, text.as_slice())? {
-                Ok(Some(text))
-            } else {
-                Ok(None)
-            }
-        }
-        Err(CertFault::Fault { .. }) => Ok(None),
-        Err(CertFault::NoMemory) => Err(TimingFault::NoMemory),
-    }
+    let exits = exits_of(alloc, rom, bound, lines)?;
+    text_of(alloc, bound, lines, exits.as_slice())
 }
 
 // The bound of some lines: what is left at the entry where the counter is greatest is the limit.
@@ -272,6 +259,21 @@ fn bound_with(start: &Bound, lines: &[Line]) -> Bound
     Bound {
         limit: left.min(u64::from(u32::MAX)) as u32,
         ..*start
+    }
+}
+
+// Whether a text is a certificate whose exits lead out of the ROM, as it is found.
+fn is_certificate(alloc: Global, rom: &[u8], start: &Bound, text: &[u8]) -> Result<bool, AllocError>
+    ensures found { IfOk result (λ found. found ≡ true → IsFound rom.now start.now.entry start.now.p start.now.k text.now) }
+    ensures none { IfOk result (λ found. found ≡ false → IsFound rom.now start.now.entry start.now.p start.now.k text.now → ⊥) }
+{
+    if text.len() > MOST_TEXT {
+        return Ok(false);
+    }
+    match read_certificate(alloc, text) {
+        Ok(draft) => is_found(alloc, rom, start, &draft, text),
+        Err(CertFault::Fault { .. }) => Ok(false),
+        Err(CertFault::NoMemory) => Err(AllocError),
     }
 }
 
@@ -294,22 +296,50 @@ fn is_found(
     let lines = draft.lines();
     let exits = exits_of(alloc, rom, &bound, lines)?;
     let again = text_of(alloc, &bound, lines, exits.as_slice())?;
-    if !are_same(again.as_slice(), text) {
-        return Ok(false);
+    Ok(is_as_read(
+        rom,
+        start,
+        &bound,
+        lines,
+        exits.as_slice(),
+        again.as_slice(),
+        text,
+    ))
+}
+
+// Whether a text is the one of what was read of it, which is of this routine and accepted, and whose exits lead out of the ROM.
+fn is_as_read(
+    rom: &[u8],
+    start: &Bound,
+    bound: &Bound,
+    lines: &[Line],
+    exits: &[Exit],
+    again: &[u8],
+    text: &[u8],
+) -> bool
+    requires { AreRising lines.now }
+    ensures found { result ≡ true
+        → (again.now ≡ text.now) × All (λ exit. leaves_rom exit.to) exits.now
+        × ((bound.now.entry ≡ start.now.entry) × (bound.now.p ≡ start.now.p) × (bound.now.k ≡ start.now.k))
+        × HasLimit bound.now lines.now × (fault_in rom.now bound.now lines.now ≡ None) }
+    ensures none { result ≡ false
+        → ((again.now ≡ text.now) × All (λ exit. leaves_rom exit.to) exits.now
+        × ((bound.now.entry ≡ start.now.entry) × (bound.now.p ≡ start.now.p) × (bound.now.k ≡ start.now.k))
+        × HasLimit bound.now lines.now × (fault_in rom.now bound.now lines.now ≡ None)) → ⊥ }
+{
+    if !are_same(again, text) {
+        return false;
     }
-    if !all_leave_rom(exits.as_slice()) {
-        return Ok(false);
+    if !all_leave_rom(exits) {
+        return false;
     }
-    if !is_of(start, &bound) {
-        return Ok(false);
+    if !is_of(start, bound) {
+        return false;
     }
-    if !has_limit(&bound, lines) {
-        return Ok(false);
+    if !has_limit(bound, lines) {
+        return false;
     }
-    if fault_in(rom, &bound, lines).is_some() {
-        return Ok(false);
-    }
-    Ok(true)
+    fault_in(rom, bound, lines).is_none()
 }
 
 fn are_same(one: &[u8], other: &[u8]) -> bool

@@ -15,13 +15,14 @@ use crate::fault::{TimingCause, TimingFault, obstacle};
 use crate::grammar::{Bound, Fact, Line};
 use crate::known::Knowledge;
 use crate::table::{Way, assigns_d, assigns_named};
-use std::alloc::{AllocError, Global};
+use arrayvec::ArrayVec;
+use std::alloc::Global;
 use vip_isa::Kind;
 
 /// The bytes of the ROM.
 pub const ROM_SIZE: usize = 2_048;
 
-/// An address is followed anew where less is known of it: of X, and of three facts.
+/// An address is followed anew where less is known of it: of X, and of three facts. So no more of them ever wait.
 const MOST_TURNS: usize = 10_240;
 
 /// Each pass but the last one bars a fact at some address.
@@ -57,7 +58,7 @@ pub struct Forward<'a> {
     known: Vec<Option<Knowledge>>,
     barred: Vec<Barred>,
     // the addresses to be followed, with what is known now
-    waiting: Vec<u16>,
+    waiting: ArrayVec<u16, MOST_TURNS>,
 }
 
 /// The place in the ROM of an address, where it has one.
@@ -68,6 +69,19 @@ pub fn place_of(address: u32) -> Option<usize>
         Some((address - 0x8000) as usize)
     } else {
         None
+    }
+}
+
+/// The place in the ROM at the end of a way.
+pub fn end_of(way: Way) -> Option<u16>
+    ensures { IfSome result (λ place. place < 2048) }
+{
+    let Some(to) = way.to else {
+        return None;
+    };
+    match place_of(to) {
+        Some(place) => Some(place as u16),
+        None => None,
     }
 }
 
@@ -88,8 +102,10 @@ pub fn explore<'a>(alloc: Global, rom: &'a [u8], bound: Bound) -> Result<Forward
         bound,
         known: Vec::new(alloc),
         barred: vec![in alloc; free; ROM_SIZE]?,
-        waiting: Vec::new(alloc),
+        waiting: ArrayVec::new(),
     };
+    // an entry outside the ROM is met nowhere
+    forward.follow_with(bound.entry, &Knowledge::nothing())?;
     forward.settle(alloc)?;
     Ok(forward)
 }
@@ -104,7 +120,7 @@ impl Forward<'_> {
         for _ in 0..MOST_PASSES {
             self.pass(alloc)?;
             if !self.bar_all() {
-                return Ok(());
+                break;
             }
         }
         Ok(())
@@ -118,10 +134,7 @@ impl Forward<'_> {
     {
         self.known = vec![in alloc; None; ROM_SIZE]?;
         self.waiting.clear();
-        let entry = self.bound.entry;
-        let start = Knowledge::nothing();
-        self.follow_with(entry, &start)?;
-        self.meet(u32::from(entry), start)?;
+        self.meet(u32::from(self.bound.entry), Knowledge::nothing());
         for _ in 0..MOST_TURNS {
             let Some(address) = self.waiting.pop() else {
                 break;
@@ -136,7 +149,10 @@ impl Forward<'_> {
         requires { IsTrueOf self.now }
         ensures { IfSome result (IsKnown self.now.rom.now self.now.bound address) }
     {
-        match self.known.get(place_of(address)?) {
+        let Some(place) = place_of(address) else {
+            return None;
+        };
+        match self.known.get(place) {
             Some(known) => *known,
             None => None,
         }
@@ -167,69 +183,57 @@ impl Forward<'_> {
             return Err(obstacle(self.rom, TimingCause::Opcode, address));
         }
         let ways = ways_from(&self.bound, address, &instruction);
-        self.go(known, &line, &instruction, ways.first)?;
+        self.go(known, &line, &instruction, ways.first);
         if let Some(second) = ways.second {
-            self.go(known, &line, &instruction, second)?;
+            self.go(known, &line, &instruction, second);
         }
         Ok(())
     }
 
     // Goes a way to an address of the ROM, where the fact of the line lets it through.
-    fn go(
-        &mut self,
-        known: &Knowledge,
-        line: &Line,
-        instruction: &Instruction,
-        way: Way,
-    ) -> Result<(), AllocError>
+    fn go(&mut self, known: &Knowledge, line: &Line, instruction: &Instruction, way: Way)
         requires true_of { IsTrueOf self.now }
         requires known { IsKnown self.now.rom.now self.now.bound line.now.address known.now }
         requires allowed { MayBeAllowed self.now.rom.now self.now.bound line.now.address }
         requires instruction { instruction.now ≡ instruction_at self.now.rom.now line.now.address }
         requires way { IsOneOf self.now.rom.now self.now.bound line.now.address way }
-        ensures { OnOk result (StaysTrue self.old self.new) }
+        ensures { StaysTrue self.old self.new }
     {
-        if !lets_through(line.fact, way.when) {
-            return Ok(());
-        }
-        match way.to {
-            Some(to) => {
-                let behind = known.behind(self.bound.k, instruction, way.when);
-                self.meet(to, behind)
-            }
-            None => Ok(()),
+        if let Some(to) = way.to
+            && lets_through(line.fact, way.when)
+        {
+            let behind = known.behind(self.bound.k, instruction, way.when);
+            self.meet(to, behind);
         }
     }
 
     // Meets an address where this is known, if it lies in the ROM.
-    fn meet(&mut self, address: u32, known: Knowledge) -> Result<(), AllocError>
+    fn meet(&mut self, address: u32, known: Knowledge)
         requires true_of { IsTrueOf self.now }
         requires known { IsKnown self.now.rom.now self.now.bound address known }
-        ensures { OnOk result (StaysTrue self.old self.new) }
+        ensures { StaysTrue self.old self.new }
     {
-        let before = self.known_at(address);
-        let joined = match before {
-            Some(before) => before.join(&known),
-            None => known,
-        };
-        if before != Some(joined) {
-            self.set(address, joined)?;
+        match self.known_at(address) {
+            Some(before) => {
+                let joined = before.join(&known);
+                if joined != before {
+                    self.set(address, joined);
+                }
+            }
+            None => self.set(address, known),
         }
-        Ok(())
     }
 
     // What is known at an address of the ROM is this now, and it is to be followed.
-    fn set(&mut self, address: u32, known: Knowledge) -> Result<(), AllocError>
+    fn set(&mut self, address: u32, known: Knowledge)
         requires true_of { IsTrueOf self.now }
         requires known { IsKnown self.now.rom.now self.now.bound address known }
-        ensures { OnOk result (StaysTrue self.old self.new) }
+        ensures { StaysTrue self.old self.new }
     {
-        let Some(place) = place_of(address) else {
-            return Ok(());
-        };
-        self.put(place, known);
-        self.waiting.push(0x8000 + place as u16)?;
-        Ok(())
+        if let Some(place) = place_of(address) {
+            self.put(place, known);
+            let _ = self.waiting.try_push(0x8000 + place as u16);
+        }
     }
 
     // What is known at a place is this now.
@@ -272,8 +276,10 @@ impl Forward<'_> {
     }
 
     fn barred_at(&self, address: u16) -> Option<Barred> {
-        let place = place_of(u32::from(address))?;
-        self.barred.get(place).copied()
+        match place_of(u32::from(address)) {
+            Some(place) => self.barred.get(place).copied(),
+            None => None,
+        }
     }
 
     // Whether D is asked for from an address on, before it is assigned.
@@ -297,11 +303,10 @@ impl Forward<'_> {
     // The next address of the ROM, where there is only one.
     fn only_next(&self, address: u16, instruction: &Instruction) -> Option<u16> {
         let ways = ways_from(&self.bound, address, instruction);
-        if ways.second.is_some() {
-            return None;
+        match (end_of(ways.first), ways.second) {
+            (Some(place), None) => Some(0x8000 + place),
+            _ => None,
         }
-        let place = place_of(ways.first.to?)?;
-        Some(0x8000 + place as u16)
     }
 
     // What an instruction does with what is known of D.
@@ -340,42 +345,45 @@ impl Forward<'_> {
         let line = self.line_with(address, &known);
         let instruction = instruction_at(self.rom, address);
         let ways = ways_from(&self.bound, address, &instruction);
-        let first = self.bar_at(&known, &line, &instruction, ways.first);
+        let unshown = self.unshown(&known, &line, &instruction, ways.first);
+        let first = self.bar(unshown);
         match ways.second {
-            Some(second) => self.bar_at(&known, &line, &instruction, second) || first,
+            Some(second) => {
+                let unshown = self.unshown(&known, &line, &instruction, second);
+                self.bar(unshown) || first
+            }
             None => first,
         }
     }
 
-    // Bars the fact of the line at the end of a way, where the way doesn't show it. False where it does. Where the line says what D is and could say
-    // that the counter isn't 0, which is asked for, its own fact is barred instead.
-    fn bar_at(
-        &mut self,
+    // The fact of the line at the end of a way, with its place, where the way doesn't show it. Where the line says what D is and could say that the
+    // counter isn't 0, which is asked for, it is its own fact instead.
+    fn unshown(
+        &self,
         known: &Knowledge,
         line: &Line,
         instruction: &Instruction,
         way: Way,
-    ) -> bool
+    ) -> Option<(usize, Fact)>
         requires { IsTrueOf self.now }
-        ensures { StaysTrue self.old self.new }
     {
         let k = self.bound.k;
-        match self.asked_at(way) {
-            Some((place, asked))
-                if lets_through(line.fact, way.when)
-                    && !is_shown(k, instruction, line.fact, way.when, 0, asked) => {
-                let own = place_of(u32::from(line.address));
-                match (asked, own) {
-                    (Fact::NonZero, Some(own))
-                        if self.may_say_some(known, line)
-                            && is_shown(k, instruction, Fact::NonZero, way.when, 0, asked) => {
-                        self.bar(own, line.fact);
-                    }
-                    _ => self.bar(place, asked),
-                }
-                true
+        let Some((place, asked)) = self.asked_at(way) else {
+            return None;
+        };
+        if !lets_through(line.fact, way.when)
+            || is_shown(k, instruction, line.fact, way.when, 0, asked)
+        {
+            return None;
+        }
+        match place_of(u32::from(line.address)) {
+            Some(own)
+                if matches!(asked, Fact::NonZero)
+                    && self.may_say_some(known, line)
+                    && is_shown(k, instruction, Fact::NonZero, way.when, 0, asked) => {
+                Some((own, line.fact))
             }
-            _ => false,
+            _ => Some((place, asked)),
         }
     }
 
@@ -391,17 +399,25 @@ impl Forward<'_> {
     fn asked_at(&self, way: Way) -> Option<(usize, Fact)>
         requires { IsTrueOf self.now }
     {
-        let to = way.to?;
-        let place = place_of(to)?;
-        let known = self.known_at(to)?;
-        Some((place, self.choose(0x8000 + place as u16, &known)))
+        let Some(to) = way.to else {
+            return None;
+        };
+        match (place_of(to), self.known_at(to)) {
+            (Some(place), Some(known)) => {
+                Some((place, self.choose(0x8000 + place as u16, &known)))
+            }
+            _ => None,
+        }
     }
 
-    // Bars a fact at a place.
-    fn bar(&mut self, place: usize, fact: Fact)
+    // Bars a fact at a place. False where there is none.
+    fn bar(&mut self, found: Option<(usize, Fact)>) -> bool
         requires { IsTrueOf self.now }
         ensures { StaysTrue self.old self.new }
     {
+        let Some((place, fact)) = found else {
+            return false;
+        };
         if let Some(barred) = self.barred.get_mut(place) {
             match fact {
                 Fact::Any => {}
@@ -410,6 +426,7 @@ impl Forward<'_> {
                 Fact::Is(_) => barred.byte = true,
             }
         }
+        true
     }
 
     /// The line of an address, where it was met, which doesn't say yet what is left.
@@ -417,8 +434,10 @@ impl Forward<'_> {
         requires { IsTrueOf self.now }
         ensures { IfSome result (λ line. (line.address ≡ address) × IsOfWays self.now.rom.now self.now.bound line) }
     {
-        let known = self.known_at(u32::from(address))?;
-        Some(self.line_with(address, &known))
+        match self.known_at(u32::from(address)) {
+            Some(known) => Some(self.line_with(address, &known)),
+            None => None,
+        }
     }
 
     /// Whether an address was met.

@@ -3,39 +3,26 @@
 ghost use Rattle.cycle_check.specs.Forward.{IsTrueOf};
 
 use crate::closed::{Instruction, instruction_at, lets_through, ways_from};
-use crate::forward::{Forward, ROM_SIZE, place_of};
+use crate::forward::{Forward, ROM_SIZE, end_of};
 use crate::grammar::{Bound, Fact, Line};
-use crate::table::{Way, When};
+use crate::table::{Way, Ways};
 use crate::turn::{assigns_low, takes_one};
+use arrayvec::ArrayVec;
 use std::alloc::{AllocError, Global};
 
-/// A way that the fact of a line lets through, to the line at a place in the ROM, or to none.
-#[derive(Clone, Copy)]
-pub struct Edge {
-    pub when: When,
-    pub to: Option<usize>,
-}
+/// How many places the ROM has.
+pub const PLACES: u16 = 2_048;
 
 /// A line, its instruction and its ways.
 #[derive(Clone, Copy)]
 pub struct Node {
     pub line: Line,
     pub instruction: Instruction,
-    pub edges: [Option<Edge>; 2],
-}
-
-impl Node {
-    /// Whether the instruction takes one from the counter in a register, which isn't 0 there.
-    pub fn takes(&self, k: u8) -> bool {
-        self.instruction.op.n == k
-            && takes_one(self.instruction.op.kind)
-            && matches!(self.line.fact, Fact::NonZero)
-    }
-
-    /// Whether it may give the counter another value.
-    pub fn assigns(&self, k: u8) -> bool {
-        self.instruction.op.n == k && assigns_low(self.instruction.op.kind) && !self.takes(k)
-    }
+    pub ways: Ways,
+    /// Whether the instruction takes one from the counter, which isn't 0 there.
+    pub takes: bool,
+    /// Whether it may give the counter another value than one less.
+    pub assigns: bool,
 }
 
 /// The lines of a routine by their place in the ROM.
@@ -66,92 +53,89 @@ pub fn graph_of(alloc: Global, forward: &Forward) -> Result<Graph, AllocError>
 
 fn node_of(rom: &[u8], bound: &Bound, line: &Line) -> Node {
     let instruction = instruction_at(rom, line.address);
-    let ways = ways_from(bound, line.address, &instruction);
-    let second = match ways.second {
-        Some(second) => edge_on(line, second),
-        None => None,
-    };
+    let op = instruction.op;
+    let assigns = assigns_low(op.kind) && op.n == bound.k;
+    let takes = assigns && takes_one(op.kind) && matches!(line.fact, Fact::NonZero);
     Node {
         line: *line,
         instruction,
-        edges: [edge_on(line, ways.first), second],
+        ways: ways_from(bound, line.address, &instruction),
+        takes,
+        assigns: assigns && !takes,
     }
 }
 
-fn edge_on(line: &Line, way: Way) -> Option<Edge> {
-    if !lets_through(line.fact, way.when) {
-        return None;
+impl Node {
+    // The place to which a way leads that the fact of the line lets through.
+    fn target(&self, way: Way) -> Option<u16> {
+        if lets_through(self.line.fact, way.when) {
+            end_of(way)
+        } else {
+            None
+        }
     }
-    let to = match way.to {
-        Some(to) => place_of(to),
-        None => None,
-    };
-    Some(Edge { when: way.when, to })
 }
 
 impl Graph {
     /// The node at a place.
-    pub fn node(&self, place: usize) -> Option<Node> {
-        match self.nodes.get(place) {
+    pub fn node(&self, place: u16) -> Option<Node> {
+        match self.nodes.get(usize::from(place)) {
             Some(node) => *node,
             None => None,
         }
     }
 
-    /// Whether the line at a place may give the counter another value than one less.
-    pub fn assigns(&self, place: usize) -> bool {
-        match self.node(place) {
-            Some(node) => node.assigns(self.k),
-            None => false,
+    /// The node at the end of a way.
+    pub fn node_behind(&self, way: Way) -> Option<Node> {
+        match end_of(way) {
+            Some(place) => self.node(place),
+            None => None,
         }
     }
 
-    // The ways from a place, all of them, or only where it doesn't take from the counter.
-    fn edges(&self, place: usize, counts: bool) -> [Option<Edge>; 2] {
+    // The places to which one leads by all ways, or only where it doesn't take from the counter.
+    fn targets(&self, place: u16, counts: bool) -> [Option<u16>; 2] {
         match self.node(place) {
-            Some(node) if counts || !node.takes(self.k) => node.edges,
+            Some(node) if counts || !node.takes => {
+                let second = match node.ways.second {
+                    Some(second) => node.target(second),
+                    None => None,
+                };
+                [node.target(node.ways.first), second]
+            }
             _ => [None, None],
         }
     }
 
     /// For each place from which one it was met first on the ways from a start on, by one step or more; by all ways, or only by those of lines that
-    /// don't take from the counter.
+    /// don't take from the counter. Nothing where no line starts.
     pub fn sources(
         &self,
         alloc: Global,
-        start: usize,
+        start: u16,
         counts: bool,
-    ) -> Result<Vec<Option<usize>>, AllocError> {
+    ) -> Result<Vec<Option<u16>>, AllocError> {
+        if self.node(start).is_none() {
+            return Ok(Vec::new(alloc));
+        }
         let mut sources = vec![in alloc; None; ROM_SIZE]?;
-        let mut waiting = vec![in alloc; start; 1]?;
+        let mut waiting = ArrayVec::<u16, 2_049>::new();
+        waiting.push(start);
         for _ in 0..=ROM_SIZE {
             let Some(place) = waiting.pop() else {
                 break;
             };
-            for edge in self.edges(place, counts) {
-                if let Some(
-                    Edge {
-                        to: Some(target),
-                        ..
-                    },
-                ) = edge
-                    && meet(&mut sources, target, place)
-                {
-                    waiting.push(target)?;
+            for target in self.targets(place, counts) {
+                if let Some(target) = target {
+                    let at = usize::from(target);
+                    if at < sources.len() && sources[at].is_none() {
+                        sources[at] = Some(place);
+                        // each place is met once, so there is room
+                        let _ = waiting.try_push(target);
+                    }
                 }
             }
         }
         Ok(sources)
-    }
-}
-
-// A place is met from another one. False where it was met before.
-fn meet(sources: &mut Vec<Option<usize>>, target: usize, place: usize) -> bool {
-    match sources.get_mut(target) {
-        Some(source) if source.is_none() => {
-            *source = Some(place);
-            true
-        }
-        _ => false,
     }
 }

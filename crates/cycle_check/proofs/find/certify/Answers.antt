@@ -1,7 +1,18 @@
 use Rattle.std.proofs.Common.{refl}
 use Rattle.cycle_check.proofs.find.certify.Goals as goal
 
-pub returns-in-None-clause-fault : goal.returns-in-None-clause-fault
-returns-in-None-clause-fault c =
-    rw c.obstacle-in-None.ensures
-    (record { led = c.led_of.ensures; lines = c.args.lines.now; of_ways = c.requires.of_ways; fails = c.in_ok-text.ensures.none c.in-None.is }, refl)
+pub returns-else-is_found-clause-fault : goal.returns-else-is_found-clause-fault
+returns-else-is_found-clause-fault c =
+    let text = rw c.bound_with-bound.ensures at c.in_ok-text.ensures in
+    rw c.obstacle-else-is_found.ensures (
+      record {
+        led = c.led_of.ensures;
+        lines = c.args.lines.now;
+        of_ways = c.requires.of_ways;
+        fails = record {
+          limit = c.bound_with-bound.result.limit;
+          none = λ found. c.in_ok-is_found.ensures.none c.if-is_found.false (rw (c.as_slice.ensures.value, text) found);
+        };
+      },
+      refl,
+    )

@@ -1,5 +1,4 @@
 use Rattle.std.proofs.Common.{◌≡◌, inl, inr, refl, sym, ap, ◌∙◌}
-use Rattle.std.proofs.lemmas.Result.{err_from_is_err_and}
 use Rattle.cycle_check.specs.Closed.{instruction_at}
 use Rattle.cycle_check.proofs.Leading.{keeps_on, refused}
 use Rattle.cycle_check.proofs.forward.Forward.follow_with.Goals as goal
@@ -35,15 +34,10 @@ pub go-requires-clause-way : goal.go-requires-clause-way
 go-requires-clause-way c =
     inl (rw (c.line_with-line.ensures.address, ← c.instruction_at-instruction.ensures) (ap (λ ways. ways.first) c.ways_from-ways.ensures))
 
-pub returns-in_err-go-clause-fault : goal.returns-in_err-go-clause-fault
-returns-in_err-go-clause-fault c =
-    let none = err_from_is_err_and c.from_residual.result c.from_residual.ensures.1 in
-    rw (none.1, none.2) tt
-
 -- ---- the second one
 
 pub go-requires-in-Some-clause-known : goal.go-requires-in-Some-clause-known
-go-requires-in-Some-clause-known c = rw (c.in_ok-go.ensures.rom, c.in_ok-go.ensures.bound, c.line_with-line.ensures.address) c.requires.known
+go-requires-in-Some-clause-known c = rw (c.go.ensures.rom, c.go.ensures.bound, c.line_with-line.ensures.address) c.requires.known
 
 pub go-requires-in-Some-clause-allowed : goal.go-requires-in-Some-clause-allowed
 go-requires-in-Some-clause-allowed c =
@@ -52,27 +46,22 @@ go-requires-in-Some-clause-allowed c =
     record {
       line = c.line_with-line.result;
       of = refl;
-      allowed = rw (c.in_ok-go.ensures.rom, c.in_ok-go.ensures.bound, ← here) (sym c.is_allowed.ensures ∙ c.if-not-is_allowed.false);
+      allowed = rw (c.go.ensures.rom, c.go.ensures.bound, ← here) (sym c.is_allowed.ensures ∙ c.if-not-is_allowed.false);
     }
 
 pub go-requires-in-Some-clause-instruction : goal.go-requires-in-Some-clause-instruction
-go-requires-in-Some-clause-instruction c = rw (c.in_ok-go.ensures.rom, c.line_with-line.ensures.address) c.instruction_at-instruction.ensures
+go-requires-in-Some-clause-instruction c = rw (c.go.ensures.rom, c.line_with-line.ensures.address) c.instruction_at-instruction.ensures
 
 pub go-requires-in-Some-clause-way : goal.go-requires-in-Some-clause-way
 go-requires-in-Some-clause-way c =
-    inr (rw (c.in_ok-go.ensures.rom, c.in_ok-go.ensures.bound, c.line_with-line.ensures.address, ← c.instruction_at-instruction.ensures)
+    inr (rw (c.go.ensures.rom, c.go.ensures.bound, c.line_with-line.ensures.address, ← c.instruction_at-instruction.ensures)
     (ap (λ ways. ways.second) (sym c.ways_from-ways.ensures) ∙ c.in-Some.is))
 
 pub go-requires-in-Some-clause-true_of : goal.go-requires-in-Some-clause-true_of
-go-requires-in-Some-clause-true_of c = c.in_ok-go.ensures.true_of
+go-requires-in-Some-clause-true_of c = c.go.ensures.true_of
 
-pub returns-in_err-go-2-clause-fault : goal.returns-in_err-go-2-clause-fault
-returns-in_err-go-2-clause-fault c =
-    let none = err_from_is_err_and c.from_residual-in_err-go-2.result c.from_residual-in_err-go-2.ensures.1 in
-    rw (none.1, none.2) tt
-
-pub returns-in_ok-go-2-clause-stays : goal.returns-in_ok-go-2-clause-stays
-returns-in_ok-go-2-clause-stays c = keeps_on c.args.self.now c.go.new.self c.go-in-Some.new.self c.in_ok-go.ensures c.in_ok-go-2.ensures
+pub returns-in-Some-clause-stays : goal.returns-in-Some-clause-stays
+returns-in-Some-clause-stays c = keeps_on c.args.self.now c.go.new.self c.go-in-Some.new.self c.go.ensures c.go-in-Some.ensures
 
 pub returns-in_default-clause-stays : goal.returns-in_default-clause-stays
-returns-in_default-clause-stays c = c.in_ok-go.ensures
+returns-in_default-clause-stays c = c.go.ensures

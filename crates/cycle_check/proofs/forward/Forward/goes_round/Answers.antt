@@ -1,4 +1,4 @@
-use Rattle.std.proofs.Common.{◌≡◌, inl, inr, arith}
+use Rattle.std.proofs.Common.{◌≡◌, inl, inr, sym, true≢false, arith}
 use Rattle.std.proofs.lemmas.Bool.{cases_lt}
 use Rattle.cycle_check.proofs.forward.Forward.goes_round.Goals as goal
 
@@ -7,3 +7,9 @@ loop-place-preserved c i low = elim (cases_lt i c.loop-place.place) [
   | inl before ↦ c.loop-place.invariant i before
   | inr behind ↦ let here : i ≡ c.loop-place.place = omega (arith, low, behind) in rw here (c.leads_on.ensures c.if-not-leads_on.false)
 ]
+
+pub returns : goal.returns
+returns c round i low = c.loop-place.invariant i (omega (arith, low))
+
+pub returns-then-not-leads_on : goal.returns-then-not-leads_on
+returns-then-not-leads_on c round = absurd (true≢false (sym round))
