@@ -1,7 +1,7 @@
 -- Moves one after another, behind none of which but the last one an event waits.
 use Rattle.std.proofs.Common.{◌≡◌, ◌⊎◌, ℕ, zero, suc, ◌+◌, ◌-◌, ◌<◌, ◌≤◌, inl, inr, Bool, true, false, ◌&&◌, [], refl, sym, ap, ◌∙◌, subst, subst₂, arith}
 use Rattle.std.specs.Prelude.{◌==◌}
-use Rattle.std.proofs.lemmas.Bool.Decides.{nat_tests}
+use Rattle.std.proofs.lemmas.Bool.{eqb-true}
 use Rattle.machine.specs.Instruction.{Regs, at}
 use Rattle.machine.specs.Board.{Machine, Case, case_of}
 use Rattle.machine.specs.Board.Case.{Dma, Interrupt, Idle, Instruction}
@@ -49,7 +49,7 @@ at_label p address b h =
     (instruction (case_of b) t.0, ap (at b.regs) here ∙ same (at b.regs p) address t.2)
   where
     same : (x y : ℕ) → (x == y) ≡ true → x ≡ y
-    same x y e = grind (arith, nat_tests, e)
+    same x y e = eqb-true x y e
 
 not_true : (x : Bool) → (x ≡ true → ⊥) → x ≡ false
 not_true true h = absurd (h refl)

@@ -2,8 +2,7 @@
 use Rattle.std.proofs.Common.{◌≡◌, ◌⊎◌, inl, inr, ℕ, zero, suc, ◌+◌, ◌-◌, ◌*◌, ◌<◌, ◌≤◌, Bool, true, false, cond, List, [], ◌∷◌, ◌++◌, length, filter, map, refl, sym, ap, ◌∙◌, arith, append_assoc, append-nil, length-append, add-one, Option, Some}
 use Rattle.std.specs.Prelude.{nat_le, ◌&&◌, if◌then◌else◌, slice_get}
 use Rattle.std.specs.Option.{option_map}
-use Rattle.std.proofs.lemmas.Bool.{cases_lt, le-leb}
-use Rattle.std.proofs.lemmas.Bool.Decides.{nat_tests}
+use Rattle.std.proofs.lemmas.Bool.{cases_lt, le-leb, leb-true, leb-false}
 use Rattle.std.proofs.lemmas.List.{length-map}
 use Rattle.machine.specs.Board.{Machine, start}
 use Rattle.machine.specs.Keys.{Event as KeyEvent, held_at}
@@ -250,10 +249,10 @@ module _ (i : Interpreter) (s : Start) (script : List KeyEvent) where
       by_test : (limit < (state (suc n)).cycle → length (events limit) ≤ length (past (suc n))) → (t : Bool) → nat_le (state (suc n)).cycle limit ≡ t
           → length (events limit) ≤ length (past (suc (suc n)))
       by_test shorter true h =
-          let within : (state (suc n)).cycle ≤ limit = grind (arith, nat_tests) in
+          let within : (state (suc n)).cycle ≤ limit = leb-true (state (suc n)).cycle limit h in
           omega (arith, ap length (events-last limit (suc n) within over runs))
       by_test shorter false h =
-          let short : limit < (state (suc n)).cycle = grind (arith, nat_tests) in
+          let short : limit < (state (suc n)).cycle = leb-false (state (suc n)).cycle limit h in
           let few : length (events limit) ≤ length (past (suc n)) = shorter short in
           let more : length (past (suc (suc n))) ≡ length (past (suc n)) + length (pictures (suc n)) + length (point (suc n)) = unfold past in simp length-append in
           omega (arith, few, more)

@@ -1,7 +1,7 @@
 -- A run, after one move more: its board is the next state of the run, whose events wait.
 use Rattle.std.proofs.Common.{◌≡◌, ℕ, suc, ◌+◌, ◌<◌, ◌≤◌, Bool, true, false, List, [], ◌∷◌, ◌++◌, length, take, drop, refl, sym, ap, ◌∙◌, subst, arith, append_assoc, length-append, add-one, Some}
 use Rattle.std.proofs.Common.{◌⊎◌, inl, inr}
-use Rattle.std.proofs.lemmas.Bool.{cases_lt}
+use Rattle.std.proofs.lemmas.Bool.{cases_lt, eqb-true, eqb-false}
 use Rattle.std.proofs.lemmas.List.{length-drop, drop_all, drop_at, take-append-le, drop-append-le}
 use Rattle.machine.specs.Board.{Machine, move, length_of}
 use Rattle.machine.specs.Keys.{held_at}
@@ -18,7 +18,6 @@ use Rattle.vip_relation.specs.Points.{point_of, point_events}
 use Rattle.vip_relation.specs.Waiting.{waits_by}
 use Rattle.vip_relation.specs.Meets.{HasStopped}
 use Rattle.std.specs.Prelude.{◌==◌, if◌then◌else◌}
-use Rattle.std.proofs.lemmas.Bool.Decides.{nat_tests}
 use Rattle.vip_relation.specs.Kept.{HasWaiting}
 use Rattle.vip_relation.specs.declared.point.Point.TheVariants.{Dispatch as DispatchPoint, Stop as StopPoint, Other as OtherPoint}
 use Rattle.vip_relation.specs.declared.run.Waits.TheVariants.{Picture as PictureWaiting, Point as PointWaiting}
@@ -228,8 +227,8 @@ module _ (v : VipState) (f : Follows v) where
         where
           by_test : (t : Bool) → ((moved v.board).pictures.count == v.board.pictures.count) ≡ t
               → HasWaiting (if t then PointWaiting else PictureWaiting) stepped (point_of i (moved v.board).machine)
-          by_test true h = waits-point (grind (arith, nat_tests))
-          by_test false h = waits-picture (λ same. absurd (grind (arith, nat_tests)))
+          by_test true h = waits-point (eqb-true (moved v.board).pictures.count v.board.pictures.count h)
+          by_test false h = waits-picture (eqb-false (moved v.board).pictures.count v.board.pictures.count h)
 
     -- a stop point's event waits there
     pub goes-on : HasStopped stepped → ⊥

@@ -1,12 +1,26 @@
-use Rattle.std.proofs.Common.{◌≡◌, ◌<◌, [], false, arith, sym, subst}
+use Rattle.std.proofs.Common.{◌≡◌, ◌<◌, [], false, arith, ap, sym, subst}
+use Rattle.std.proofs.lemmas.Bool.{both_ways}
 use Rattle.chip8_lang.specs.Events.{is_stop}
 use Rattle.vip_board.proofs.Through.{positive}
 use Rattle.vip_relation.specs.State.{VipState, interpreter, events_left, events_waiting}
 use Rattle.vip_relation.specs.Meets.{MeetsNext, HasStopped}
+use Rattle.vip_relation.specs.Parts.{Runs}
 use Rattle.vip_relation.specs.Kept.{state_of}
 use Rattle.vip_relation.specs.declared.run.Met.TheVariants.{End}
 use Rattle.vip_relation.proofs.Advances.{Reaches, reaches-run, meets-entry, ends-entry, ends-before, some-left, no-stop}
 use Rattle.vip_relation.proofs.run.Run.advance.Goals as goal
+
+pub returns-then-has_stopped-clause-next : goal.returns-then-has_stopped-clause-next
+returns-then-has_stopped-clause-next c running = absurd (running (c.has_stopped.ensures.0 c.if-has_stopped.true))
+
+pub returns-then-now-limit-clause-again : goal.returns-then-now-limit-clause-again
+returns-then-now-limit-clause-again c stopped = absurd (both_ways c.has_stopped.result c.if-has_stopped.false (c.has_stopped.ensures.1 stopped))
+
+pub returns-in-Some-clause-again : goal.returns-in-Some-clause-again
+returns-in-Some-clause-again c stopped = absurd (both_ways c.has_stopped.result c.if-has_stopped.false (c.has_stopped.ensures.1 stopped))
+
+pub returns-then-run-eq0-clause-again : goal.returns-then-run-eq0-clause-again
+returns-then-run-eq0-clause-again c stopped = absurd (both_ways c.has_stopped.result c.if-has_stopped.false (c.has_stopped.ensures.1 stopped))
 
 pub returns-then-now-limit-clause-next : goal.returns-then-now-limit-clause-next
 returns-then-now-limit-clause-next c running =
@@ -37,3 +51,9 @@ pub loop-met-preserved : goal.loop-met-preserved
 loop-met-preserved c =
     let r = subst (Reaches c.args.limit c.args.self.now) (sym c.in_default.ensures.first.1) c.loop-met.invariant in
     reaches-run c.args.limit c.args.self.now c.meet.new.self c.run.new.self r (c.run.ensures.moved (positive c.run.result c.if-run-eq0.false)) c.run.ensures.follows
+
+pub loop-met-smaller : goal.loop-met-smaller
+loop-met-smaller c =
+    let made : Runs c.args.limit c.meet.new.self c.run.new.self = c.run.ensures.moved (positive c.run.result c.if-run-eq0.false) in
+    let same = ap (λ (v : VipState). v.board.machine.cycle) c.in_default.ensures.first.1 in
+    omega (arith, same, made.passes.later, made.steps.later, made.within)

@@ -1,4 +1,5 @@
 use Rattle.std.proofs.Common.{◌≡◌, ◌⊎◌, inl, inr, ◌<◌, ◌+◌, ◌∙◌, ℕ, [], false, refl, ap, sym, subst, subst₂, arith}
+use Rattle.machine.specs.Board.{length_of}
 use Rattle.machine.specs.Instruction.{Regs, at}
 use Rattle.vip_memory.specs.Contents.{Contents}
 use Rattle.chip8_lang.specs.Events.{is_stop}
@@ -107,3 +108,14 @@ returns-clause-made g c made =
       goes_on = λ k some below. no-stop-here i (moved_by k s).machine (contents_of (moved_by k s)) (passes k some below).apart;
       apart = λ k some below starts here. (c.run-made.ensures.made.passes k some below).apart starts (inr here);
     })
+
+pub returns-then-made-eq0-clause-end : goal.returns-then-made-eq0-clause-end
+returns-then-made-eq0-clause-end g c none =
+    subst (λ (v : VipState). c.args.limit < v.board.machine.cycle + length_of v.board.rom v.board.machine) c.self.view_is
+    (c.run-made.ensures.none c.if-made-eq0.true)
+
+pub returns-clause-end : goal.returns-clause-end
+returns-clause-end g c none = absurd (c.if-made-eq0.false none)
+
+pub returns-clause-kept : goal.returns-clause-kept
+returns-clause-kept g c none = absurd (c.if-made-eq0.false none)

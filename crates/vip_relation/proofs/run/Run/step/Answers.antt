@@ -1,4 +1,5 @@
 use Rattle.std.proofs.Common.{◌≡◌, ◌+◌, ◌≤◌, ◌<◌, ℕ, [], false, ap, sym, ◌∙◌, subst, arith}
+use Rattle.std.specs.Prelude.{◌↔◌}
 use Rattle.machine.specs.Board.{length_of}
 use Rattle.chip8_lang.specs.Events.{is_stop}
 use Rattle.vip_board.specs.Moves.{moved, name_of}
@@ -85,3 +86,13 @@ returns-in-Done-clause-moved c =
     c.point_at-self-inside.ensures c.waits_by-self-inside.ensures
     (c.count-pictures.ensures ∙ ap (λ (chip : Chip). chip.pictures.count) c.video.ensures)
     (c.count.ensures ∙ ap (λ (chip : Chip). chip.pictures.count) c.video-in-Done.ensures)).steps
+
+pub returns-in-End-clause-end : goal.returns-in-End-clause-end
+returns-in-End-clause-end c =
+    subst (λ (v : VipState). (End ≡ End) ↔ (c.args.limit < v.board.machine.cycle + length_of v.board.rom v.board.machine)) c.self.view_is
+    c.in-End.ensures.end
+
+pub returns-in-Done-clause-end : goal.returns-in-Done-clause-end
+returns-in-Done-clause-end c =
+    subst (λ (v : VipState). (Done c.in-Done.name ≡ End) ↔ (c.args.limit < v.board.machine.cycle + length_of v.board.rom v.board.machine)) c.self.view_is
+    c.in-Done.ensures.end
