@@ -3,8 +3,7 @@ use Rattle.std.proofs.Common.{◌≡◌, ℕ, zero, suc, ◌+◌, ◌*◌, ◌/�
 use Rattle.std.specs.Prelude.{nat_le, nat_lt, ◌==◌, ◌&&◌, ◌||◌, not}
 use Rattle.std.specs.List.{list_all}
 use Rattle.std.proofs.Common.{◌⊎◌, inl, inr}
-use Rattle.std.proofs.lemmas.Bool.{cases_lt}
-use Rattle.std.proofs.lemmas.Bool.Decides.{nat_tests}
+use Rattle.std.proofs.lemmas.Bool.{cases_lt, leb-true, leb-false, le-ltb, ne_eqb}
 use Rattle.std.proofs.lemmas.List.Elements.{filter-append}
 use Rattle.std.proofs.lemmas.List.Folds.{list_all-append}
 use Rattle.machine.specs.Opcodes.{cycles_of}
@@ -88,10 +87,10 @@ module _ (rom : List ℕ) (held : ℕ → Keys) where
       by_test : (limit < (after_moves rom held b n).cycle → length (run_to rom held b limit) ≤ n) → (t : Bool)
           → nat_le (after_moves rom held b n).cycle limit ≡ t → length (run_to rom held b limit) ≤ suc n
       by_test shorter true h =
-          let within : (after_moves rom held b n).cycle ≤ limit = grind (arith, nat_tests) in
+          let within : (after_moves rom held b n).cycle ≤ limit = leb-true (after_moves rom held b n).cycle limit h in
           rw (run-last limit n b within past, length-states (suc n) b) (omega arith)
       by_test shorter false h =
-          let before : limit < (after_moves rom held b n).cycle = grind (arith, nat_tests) in
+          let before : limit < (after_moves rom held b n).cycle = leb-false (after_moves rom held b n).cycle limit h in
           omega (arith, shorter before)
 
 -- ---- states from a cycle on
@@ -131,7 +130,7 @@ module _ (rom : List ℕ) (t : ℕ) where
       ap (λ first. first && nat_lt (interrupt_at m) (b.cycle + length_of rom b)) (past (window_end m) b.cycle (omega (arith, ended, from)))
     where
       past : (x y : ℕ) → x ≤ y → nat_lt y x ≡ false
-      past x y h = grind (arith, nat_tests)
+      past x y h = le-ltb y x h
 
   or_true : (x : Bool) → (x || true) ≡ true
   or_true true = refl
@@ -165,7 +164,7 @@ module _ (rom : List ℕ) (t : ℕ) where
       ∙ none_of line ys ended later.1
     where
       elsewhere : (dma : Bool) (x line : ℕ) → line < x → (dma && x == line) ≡ false
-      elsewhere true x line h = grind (arith, nat_tests)
+      elsewhere true x line h = ne_eqb x line (λ e. omega (arith, e, h))
       elsewhere false x line h = refl
 
   line-later : (line : ℕ) (xs ys : List Machine) → 14 * (line + 1) ≤ t → Later t ys → line_bytes rom (xs ++ ys) line ≡ line_bytes rom xs line

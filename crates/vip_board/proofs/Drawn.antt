@@ -4,7 +4,7 @@ use Rattle.std.proofs.Math.Bool.{◌&&◌, ◌||◌}
 use Rattle.std.specs.Prelude.{Option, Some, None, IsSome, nat_lt, slice_get}
 use Rattle.std.specs.Option.{option_map, option_to_list}
 use Rattle.std.proofs.lemmas.Bool.Decides.{nat_tests}
-use Rattle.std.proofs.lemmas.Bool.{le-ltb}
+use Rattle.std.proofs.lemmas.Bool.{le-ltb, eqb-true, eqb-false, cases_eq, and_right}
 use Rattle.machine.specs.Signals.{line_cycles, frame_lines, window_line, window_end_line, window_lines, line_of}
 use Rattle.machine.specs.Pictures.{frame, interrupt_at, window_end, windows_ended, filled}
 use Rattle.machine.proofs.Counts.{windows}
@@ -69,9 +69,6 @@ bytes_from-more bytes bytes' line (suc n) (suc k) at b e l h o =
 
 -- ---- places
 
-same_or_not : (k n : ℕ) → (k ≡ n) ⊎ (k ≢ n)
-same_or_not k n = grind arith
-
 either : (b : Bool) → (b ≡ true) ⊎ (b ≡ false)
 either true = inl refl
 either false = inr refl
@@ -95,7 +92,7 @@ covers-past : (m t : ℕ) → window_end m ≤ t → covers m t ≡ false
 covers-past m t h = rw (le-ltb t (window_end m) h)
 
 covers-later : (m t : ℕ) → t + 1 ≤ interrupt_at m → covers m t ≡ false
-covers-later m t h = grind (arith, nat_tests)
+covers-later m t h = and_right _ _ (le-ltb (interrupt_at m) (t + 1) h)
 
 and-true : (x : Bool) → (x && true) ≡ x
 and-true true = refl
@@ -133,7 +130,7 @@ module _ (shown : ℕ → Bool) (bytes : ℕ → List ℕ) (t : ℕ) (on : Bool)
   everywhere : bytes' (t / line_cycles) ≡ bytes (t / line_cycles) ++ [] → (k : ℕ) → bytes' k ≡ bytes k
   everywhere h k =
       let Same : ℕ → Type 0 = λ l. bytes' l ≡ bytes l in
-      elim (same_or_not k (t / line_cycles)) [ inl e ↦ subst Same (sym e) (h ∙ append-nil (bytes (t / line_cycles))) | inr n ↦ x.elsewhere k n ]
+      elim (cases_eq k (t / line_cycles)) [ inl e ↦ subst Same (sym e) (h ∙ append-nil (bytes (t / line_cycles))) | inr n ↦ x.elsewhere k n ]
 
   lines-of : (o : Option ℕ) → bytes' (t / line_cycles) ≡ bytes (t / line_cycles) ++ option_to_list o
       → (IsSome o → window_line ≤ line_of t) → (IsSome o → line_of t < window_end_line)
@@ -260,16 +257,16 @@ module _ (shown : ℕ → Bool) (bytes : ℕ → List ℕ) (t : ℕ) (on : Bool)
   is-framed b = rw b
 
   begins-at : begins_frame (t + 1) ≡ true → (t + 1) % frame ≡ 0
-  begins-at b = grind (arith, nat_tests, b)
+  begins-at b = eqb-true ((t + 1) % frame) 0 b
 
   begins-not : begins_frame (t + 1) ≡ false → (t + 1) % frame ≢ 0
-  begins-not b = grind (arith, nat_tests, b)
+  begins-not b = eqb-false ((t + 1) % frame) 0 b
 
   follows-at : follows_window (t + 1) ≡ true → (t + 1) % frame ≡ window_end_line * line_cycles
-  follows-at b = grind (arith, nat_tests, b)
+  follows-at b = eqb-true ((t + 1) % frame) (window_end_line * line_cycles) b
 
   follows-not : follows_window (t + 1) ≡ false → (t + 1) % frame ≢ window_end_line * line_cycles
-  follows-not b = grind (arith, nat_tests, b)
+  follows-not b = eqb-false ((t + 1) % frame) (window_end_line * line_cycles) b
 
   in-frame : begins_frame (t + 1) ≡ false → D (passed (t + 1) q)
   in-frame b =

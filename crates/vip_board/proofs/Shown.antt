@@ -5,7 +5,7 @@ use Rattle.std.specs.Prelude.{Option, Some, None, IsSome, nat_lt, nat_le, slice_
 use Rattle.std.specs.List.{list_all}
 use Rattle.std.specs.Option.{option_map, option_to_list}
 use Rattle.std.proofs.lemmas.Bool.Decides.{nat_tests}
-use Rattle.std.proofs.lemmas.Bool.{le-leb, lt-leb}
+use Rattle.std.proofs.lemmas.Bool.{le-leb, lt-leb, ne_eqb}
 use Rattle.std.proofs.lemmas.List.{map-append}
 use Rattle.std.proofs.lemmas.List.Elements.{filter-append}
 use Rattle.std.proofs.lemmas.List.Folds.{list_all-append}
@@ -97,7 +97,7 @@ and-and true y z = refl
 and-and false y z = refl
 
 differs : {a b : ℕ} → a ≢ b → (b == a) ≡ false
-differs n = grind (arith, nat_tests)
+differs n = ne_eqb _ _ (λ e. n (sym e))
 
 module _ (from : ℕ) (rom : List ℕ) (run : List Machine) (b : Machine) where
   -- the first j cycles of the move have a cycle in the window of frame m

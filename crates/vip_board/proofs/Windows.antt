@@ -2,8 +2,7 @@
 use Rattle.std.proofs.Common.{◌≡◌, ◌⊎◌, inl, inr, ℕ, zero, suc, ◌+◌, ◌<◌, ◌≤◌, Bool, true, false, cond, List, ◌∷◌, length, refl, ap, ◌∙◌, arith}
 use Rattle.std.specs.Prelude.{◌&&◌, nat_le, slice_get}
 use Rattle.std.specs.Option.{option_map}
-use Rattle.std.proofs.lemmas.Bool.{le-leb}
-use Rattle.std.proofs.lemmas.Bool.Decides.{nat_tests}
+use Rattle.std.proofs.lemmas.Bool.{le-leb, leb-true, leb-false}
 use Rattle.machine.specs.Board.{Machine}
 use Rattle.machine.specs.Pictures.{interrupt_at, window_end, windows_ended, picture_of, is_shown}
 use Rattle.machine.proofs.Counts.{windows}
@@ -20,10 +19,10 @@ window-more c c' le soon = by_test (nat_le (windows_ended c') (windows_ended c))
   where
     by_test : (t : Bool) → nat_le (windows_ended c') (windows_ended c) ≡ t → (windows_ended c' ≡ windows_ended c) ⊎ (windows_ended c' ≡ suc (windows_ended c))
     by_test true h =
-        let low : windows_ended c' ≤ windows_ended c = grind (arith, nat_tests) in
+        let low : windows_ended c' ≤ windows_ended c = leb-true (windows_ended c') (windows_ended c) h in
         inl (omega (arith, low, windows c, windows c', le))
     by_test false h =
-        let high : windows_ended c < windows_ended c' = grind (arith, nat_tests) in
+        let high : windows_ended c < windows_ended c' = leb-false (windows_ended c') (windows_ended c) h in
         inr (omega (arith, high, windows c, windows c', soon))
 
 -- the frames that are shown, by two tests that agree
