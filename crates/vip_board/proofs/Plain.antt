@@ -82,13 +82,13 @@ Did cpu w taken q v opcode =
     let c = ended opcode (stepped cpu.regs cpu.regs.p) (bytes w) (flags w) taken in (q ≡ after c) × Acts Writes Sends Receives c.effect taken w v
 
 module _ (cpu : Processor) (w v : Wires) (taken : ℕ) (q : Processor) (opcode : ℕ) (plain : is_plain (kind_of opcode) ≡ true) (did : Did cpu w taken q v opcode) where
-  abbrev regs : Regs
+  abbrev pub regs : Regs
   regs = stepped cpu.regs cpu.regs.p
 
-  abbrev given : Inputs
+  abbrev pub given : Inputs
   given = inputs regs (bytes w) (flags w) taken
 
-  abbrev made : Effect
+  abbrev pub made : Effect
   made = executed opcode regs given
 
   no_port : made.port ≡ None
@@ -100,8 +100,8 @@ module _ (cpu : Processor) (w v : Wires) (taken : ℕ) (q : Processor) (opcode :
   calls : (taken ≡ 0) × (v ≡ after_calls made.port made.write w)
   calls = let c = calls-are made.port made.write taken w v (λ port byte h. absurd (not_both made.port no_port h)) did.1 in (c.0, c.1)
 
-  wired : v ≡ after_calls None made.write w
-  wired = calls.1 ∙ ap (λ port. after_calls port made.write w) no_port
+  pub plain-wires : v ≡ after_calls None made.write w
+  plain-wires = calls.1 ∙ ap (λ port. after_calls port made.write w) no_port
 
   awake : q.regs.idle ≡ cpu.regs.idle
   awake = ap (λ (x : Processor). x.regs.idle) did.0 ∙ plain_idle (kind_of opcode) (opcode_number opcode) regs given plain
@@ -163,7 +163,7 @@ module _ (cpu : Processor) (w v : Wires) (taken : ℕ) (q : Processor) (opcode :
       whole =
           let count : w.video.cycles + (p + n) ≡ b.cycle + n = omega arith in
           ap (λ x. later (seen_of x v) (p + n)) did.0
-          ∙ ap (λ x. later (seen_of (record { regs = made.regs; phase = Boundary }) x) (p + n)) wired
+          ∙ ap (λ x. later (seen_of (record { regs = made.regs; phase = Boundary }) x) (p + n)) plain-wires
           ∙ ap (after_effect made) count
           ∙ ap (λ e. after_effect e (b.cycle + n)) same
           ∙ moves
@@ -178,7 +178,7 @@ plain-works cpu w v s n opcode taken q view h active op long plain did =
     let rests : cpu.regs.idle ≡ false = ap (λ (x : Seen). x.machine.regs.idle) view ∙ active in
     let same : opcode ≡ opcode_of w.memory.rom (seen_of cpu w).machine =
     op ∙ ap (read w.memory.rom w.memory.latch w.memory.ram) (sym (ap (λ (x : Seen). at x.machine.regs x.machine.regs.p) view)) in
-    let wires = wired cpu w v taken q opcode plain did in
+    let wires = plain-wires cpu w v taken q opcode plain did in
     subst (λ x. Works n x (seen_of q v)) view
     (record {
       moved = λ p quiet. whole cpu w v taken q opcode plain did p n phase rests same long quiet some;

@@ -1,10 +1,20 @@
-use Rattle.std.proofs.Common.{◌∙◌, ap}
+use Rattle.std.proofs.Common.{◌∙◌, sym, ap}
 use Rattle.vip_board.specs.Seen.{Seen}
 use Rattle.vip_board.specs.Wired.{seen_of}
 use Rattle.vip_board.specs.Linked.{incoming_after, outgoing_after}
+use Rattle.vip_board.specs.declared.wires.Wires.{Wires}
 use Rattle.vip_board.specs.Joins.{last_cycle, last_cycled}
 use Rattle.vip_board.proofs.Joins.{MadeLast, made-last, seen-last}
 use Rattle.vip_board.proofs.board.Board.end_linked.Goals as goal
+
+pub end_cycle-requires-clause-present : goal.end_cycle-requires-clause-present
+end_cycle-requires-clause-present c =
+    let cpu = c.self.inside.cpu in
+    let m : MadeLast cpu c.self.inside.wires c.full.result c.full-2.result c.cycle.new.self c.cycle.new.bus.wires.now c.cycle.new.bus.incoming
+    c.cycle.new.bus.outgoing =
+    made-last c.requires.last.0 cpu _ c.cycle.new.bus c.cycle.new.self c.cycle.result
+    (ap (λ (s : Seen). s.phase) c.self.view_is ∙ c.requires.last.1) c.cycle.ensures in
+    c.now-now.ensures ∙ sym (ap (λ (w : Wires). w.video.cycles) m.wires)
 
 pub returns-clause-board : goal.returns-clause-board
 returns-clause-board c =

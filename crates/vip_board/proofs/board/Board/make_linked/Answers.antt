@@ -4,9 +4,13 @@ use Rattle.vip_board.specs.declared.board.Move.TheVariants.{Instruction}
 use Rattle.vip_board.proofs.Whole.{fetches_of, name_of-fetch}
 use Rattle.machine.specs.Board.Case.{Dma as DmaCase, Interrupt as InterruptCase, Idle as IdleCase}
 use Rattle.vip_board.proofs.Cases.{dma-move, interrupt-move, idle-move, name-in}
+use Rattle.vip_board.proofs.Calls.{begins-otherwise}
 use Rattle.vip_board.proofs.Joins.{EndsLinked, two-ends, three-ends, dma-leaves, interrupt-leaves, idle-leaves}
 use Rattle.vip_board.proofs.board.Board.make_linked.Goals as goal
 use Rattle.vip_board.proofs.board.Board.make_linked.Goals.{then-length-eq3, else-length-eq3}
+
+pub unreachable-requires : goal.unreachable-requires
+unreachable-requires c = begins-otherwise c.args.self.now c.requires.boundary (sym c.cycle.ensures.did ∙ c.in-Execute.is)
 
 pub returns-in-Dma-clause-moved : goal.returns-in-Dma-clause-moved
 returns-in-Dma-clause-moved c =
