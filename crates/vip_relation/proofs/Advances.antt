@@ -34,6 +34,11 @@ pub record Reaches (limit : ℕ) (entry v : VipState) : Type 0 where
   pub goes_on : HasStopped v → ⊥
   pub follows : Follows v
 
+-- as the entry itself does
+pub reaches-self : (limit : ℕ) (v : VipState) → v.board.machine.cycle ≤ limit → (HasStopped v → ⊥) → Follows v → Reaches limit v v
+reaches-self limit v within runs follows =
+    record { same = refl; script = refl; order = omega arith; within = within; goes_on = runs; follows = follows }
+
 reaches-next : (limit : ℕ) (entry v w : VipState) (name : Move) → Reaches limit entry v → Steps v w name → w.board.machine.cycle ≤ limit → Follows w
     → Reaches limit entry w
 reaches-next limit entry v w name r s within follows =

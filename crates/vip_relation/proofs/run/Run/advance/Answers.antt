@@ -1,17 +1,27 @@
-use Rattle.std.proofs.Common.{◌≡◌, ◌<◌, [], false, arith, ap, sym, subst}
+use Rattle.std.proofs.Common.{◌≡◌, ◌<◌, ◌≤◌, [], false, arith, refl, ap, sym, subst}
 use Rattle.std.proofs.lemmas.Bool.{both_ways}
 use Rattle.chip8_lang.specs.Events.{is_stop}
 use Rattle.vip_board.proofs.Through.{positive}
+use Rattle.vip_relation.specs.Follows.{Follows}
 use Rattle.vip_relation.specs.State.{VipState, interpreter, events_left, events_waiting}
 use Rattle.vip_relation.specs.Meets.{MeetsNext, HasStopped}
 use Rattle.vip_relation.specs.Parts.{Runs}
 use Rattle.vip_relation.specs.Kept.{state_of}
-use Rattle.vip_relation.specs.declared.run.Met.TheVariants.{End}
-use Rattle.vip_relation.proofs.Advances.{Reaches, reaches-run, meets-entry, ends-entry, ends-before, some-left, no-stop}
+use Rattle.vip_relation.specs.declared.run.Met.TheVariants.{End, Stopped}
+use Rattle.vip_relation.proofs.Advances.{Reaches, reaches-self, reaches-run, meets-entry, ends-entry, ends-before, some-left, no-stop}
 use Rattle.vip_relation.proofs.run.Run.advance.Goals as goal
+
+pub returns-then-has_stopped-clause-follows : goal.returns-then-has_stopped-clause-follows
+returns-then-has_stopped-clause-follows c = subst Follows c.self.view_is c.self.invariant.follows
+
+pub returns-then-has_stopped-clause-again : goal.returns-then-has_stopped-clause-again
+returns-then-has_stopped-clause-again c stopped = record { same = refl; stop = ap Stopped c.stop_record.ensures }
 
 pub returns-then-has_stopped-clause-next : goal.returns-then-has_stopped-clause-next
 returns-then-has_stopped-clause-next c running = absurd (running (c.has_stopped.ensures.0 c.if-has_stopped.true))
+
+pub returns-then-now-limit-clause-follows : goal.returns-then-now-limit-clause-follows
+returns-then-now-limit-clause-follows c = subst Follows c.self.view_is c.self.invariant.follows
 
 pub returns-then-now-limit-clause-again : goal.returns-then-now-limit-clause-again
 returns-then-now-limit-clause-again c stopped = absurd (both_ways c.has_stopped.result c.if-has_stopped.false (c.has_stopped.ensures.1 stopped))
@@ -33,6 +43,16 @@ returns-in-Some-clause-next c running =
     let r = c.loop-met.invariant in
     meets-entry c.args.limit c.args.self.now c.loop-met.self c.meet.new.self r c.in-Some.met c.in-Some.ensures.first
     (some-left c.args.limit c.loop-met.self c.meet.new.self c.in-Some.met c.in-Some.ensures.first r.follows r.within)
+
+pub loop-met-init : goal.loop-met-init
+loop-met-init c =
+    let within : c.self.inside.board.machine.cycle ≤ c.args.limit = omega (arith, c.if-now-limit.false, c.now.ensures) in
+    reaches-self c.args.limit c.args.self.now (subst (λ (v : VipState). v.board.machine.cycle ≤ c.args.limit) c.self.view_is within)
+    (λ stopped. both_ways c.has_stopped.result c.if-has_stopped.false (c.has_stopped.ensures.1 stopped))
+    (subst Follows c.self.view_is c.self.invariant.follows)
+
+pub run-requires-clause-met : goal.run-requires-clause-met
+run-requires-clause-met c = subst (λ v. events_waiting v ≡ []) (sym c.in_default.ensures.first.1) c.in_default.ensures.first.0
 
 pub run-requires-clause-runs : goal.run-requires-clause-runs
 run-requires-clause-runs c =

@@ -1,4 +1,4 @@
-use Rattle.std.proofs.Common.{◌≡◌, ◌+◌, ◌≤◌, ◌<◌, ℕ, [], false, ap, sym, ◌∙◌, subst, arith}
+use Rattle.std.proofs.Common.{◌≡◌, ◌+◌, ◌≤◌, ◌<◌, ℕ, [], false, refl, ap, sym, ◌∙◌, subst, arith}
 use Rattle.std.specs.Prelude.{◌↔◌}
 use Rattle.machine.specs.Board.{length_of}
 use Rattle.chip8_lang.specs.Events.{is_stop}
@@ -10,6 +10,7 @@ use Rattle.vip_board.specs.declared.board.Moved.TheVariants.{End, Done}
 use Rattle.vip_video.specs.Chip.{Chip}
 use Rattle.chip8_image.specs.Interpreters.{interpreter_of}
 use Rattle.vip_relation.specs.State.{VipState, interpreter, events_waiting, most_cycles}
+use Rattle.vip_relation.specs.Follows.{Follows}
 use Rattle.vip_relation.specs.Parts.{Steps}
 use Rattle.vip_relation.specs.Points.{point_of}
 use Rattle.vip_relation.specs.Waiting.{waits_by}
@@ -96,3 +97,16 @@ pub returns-in-Done-clause-end : goal.returns-in-Done-clause-end
 returns-in-Done-clause-end c =
     subst (λ (v : VipState). (Done c.in-Done.name ≡ End) ↔ (c.args.limit < v.board.machine.cycle + length_of v.board.rom v.board.machine)) c.self.view_is
     c.in-Done.ensures.end
+
+pub to_boundary-requires : goal.to_boundary-requires
+to_boundary-requires c = c.self.invariant.follows.phase
+
+pub point_at-self-inside-requires : goal.point_at-self-inside-requires
+point_at-self-inside-requires c = c.in-Done.ensures.rests
+
+pub returns-in-End-clause-follows : goal.returns-in-End-clause-follows
+returns-in-End-clause-follows c =
+    subst (λ s. Follows (state_of (record c.self.inside { board = s }))) (sym (c.in-End.ensures.kept refl)) c.self.invariant.follows
+
+pub returns-in-End-clause-kept : goal.returns-in-End-clause-kept
+returns-in-End-clause-kept c _ = ap (λ s. state_of (record c.self.inside { board = s })) (c.in-End.ensures.kept refl) ∙ c.self.view_is
