@@ -50,14 +50,14 @@ pub(crate) fn open_link<'a>(
 
 /// Makes the moves of a number's schedule, and puts the bytes that were received, as one piece.
 pub(crate) fn run_link<O: Sink>(
-    mut link: Link,
+    link: &mut Link,
     number: u32,
     moves: u32,
     out: &mut O,
 ) -> Result<Ended, PerformFault>
     requires moves { moves ≤ most_moves }
-    requires joined { IsJoined link }
-    ensures { PerformAnswers (linked (linked_after number moves link.message)) (O.meaning out.old) (O.meaning out.new) result }
+    requires joined { IsJoined link.old }
+    ensures { PerformAnswers (linked (linked_after number moves link.old.message)) (O.meaning out.old) (O.meaning out.new) result }
 {
     link.run(number, moves);
     out.put(link.received())?;

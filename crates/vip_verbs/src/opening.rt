@@ -138,11 +138,11 @@ fn begin<'a>(alloc: Global, beginning: Beginning, keys: Option<Vec<u8>>) -> Resu
 fn make_ready<'a>(
     alloc: Global,
     marks: Marks,
-    show: Show<Vec<u8>>,
+    show: &Show<Vec<u8>>,
     limit: u64,
 ) -> Result<ReadyShow, Refusal<'a>>
-    requires { AreFit (show_files (map_show (λ bytes. bytes.items) show)) }
-    ensures { ShowReady (marked marks) limit (map_show (λ bytes. bytes.items) show) result }
+    requires { AreFit (show_files (map_show (λ bytes. bytes.items) show.now)) }
+    ensures { ShowReady (marked marks) limit (map_show (λ bytes. bytes.items) show.now) result }
 {
     match show {
         Show::Trace {
@@ -151,10 +151,10 @@ fn make_ready<'a>(
             with_screen,
         } => Ok(ReadyShow::Trace {
             columns: TraceColumns {
-                time: with_time,
-                words: with_words,
+                time: *with_time,
+                words: *with_words,
             },
-            with_screen,
+            with_screen: *with_screen,
         }),
         Show::Pictures => Ok(ReadyShow::Pictures),
         Show::Commands { file, echo } => {
@@ -163,7 +163,7 @@ fn make_ready<'a>(
                 alloc,
                 Speaks::Chip8,
                 &names,
-                echo,
+                *echo,
                 file.as_slice(),
                 limit,
             )?;
@@ -171,7 +171,7 @@ fn make_ready<'a>(
         }
         Show::State => Ok(ReadyShow::State),
         Show::Profile => Ok(ReadyShow::Profile(Profile::new(alloc)?)),
-        Show::Summary(number) => Ok(ReadyShow::Summary(number)),
+        Show::Summary(number) => Ok(ReadyShow::Summary(*number)),
     }
 }
 
@@ -189,7 +189,7 @@ pub(crate) fn open_run<'a>(
     let keys = request.keys;
     let marks = start_marks(alloc, &request.start)?;
     let beginning = read_start(alloc, request.start)?;
-    let show = make_ready(alloc, marks, request.show, limit)?;
+    let show = make_ready(alloc, marks, &request.show, limit)?;
     let run = begin(alloc, beginning, keys)?;
     Ok(Prepared::Run { run, limit, show })
 }

@@ -86,12 +86,16 @@ pub fn perform<O: Sink>(prepared: Prepared, out: &mut O) -> Result<Ended, Perfor
 {
     match prepared {
         Prepared::Run { run, limit, show } => perform_run(run, limit, show, out),
-        Prepared::Program { board, limit, show } => perform_program(board, limit, show, out),
+        Prepared::Program {
+            mut board,
+            limit,
+            show,
+        } => perform_program(&mut board, limit, &show, out),
         Prepared::Link {
-            link,
+            mut link,
             number,
             moves,
-        } => run_link(link, number, moves, out),
+        } => run_link(&mut link, number, moves, out),
         Prepared::Text(text) => put_text(text, out),
         Prepared::Checked(told) => put_told(told, out),
     }

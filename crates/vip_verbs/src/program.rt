@@ -54,11 +54,11 @@ fn start_board<'a>(
 fn make_ready<'a>(
     alloc: Global,
     marks: Marks,
-    show: ProgramShow<Vec<u8>>,
+    show: &ProgramShow<Vec<u8>>,
     limit: u64,
 ) -> Result<ReadyProgramShow, Refusal<'a>>
-    requires { AreFit (program_show_files (map_program_show (λ bytes. bytes.items) show)) }
-    ensures { ProgramShowReady (marked marks) limit (map_program_show (λ bytes. bytes.items) show) result }
+    requires { AreFit (program_show_files (map_program_show (λ bytes. bytes.items) show.now)) }
+    ensures { ProgramShowReady (marked marks) limit (map_program_show (λ bytes. bytes.items) show.now) result }
 {
     match show {
         ProgramShow::Trace => Ok(ReadyProgramShow::Trace(marks.labels)),
@@ -69,7 +69,7 @@ fn make_ready<'a>(
                 alloc,
                 Speaks::Machine,
                 &names,
-                echo,
+                *echo,
                 file.as_slice(),
                 limit,
             )?;
@@ -92,7 +92,7 @@ pub(crate) fn open_program<'a>(
     let keys = request.keys;
     let marks = Marks::of(alloc, Isa::Cdp1802, &request.code)?;
     let image = program(alloc, request.memory, request.code)?;
-    let show = make_ready(alloc, marks, request.show, limit)?;
+    let show = make_ready(alloc, marks, &request.show, limit)?;
     let board = start_board(alloc, request.memory, &image, keys)?;
     Ok(Prepared::Program { board, limit, show })
 }
@@ -110,22 +110,22 @@ fn program_ran(limit: u64, end: Result<ProgramEnd, Failed>) -> Result<Ended, Per
 
 /// Runs a program, and puts what is shown of it.
 pub(crate) fn perform_program<O: Sink>(
-    mut board: Board,
+    board: &mut Board,
     limit: u64,
-    show: ReadyProgramShow,
+    show: &ReadyProgramShow,
     out: &mut O,
 ) -> Result<Ended, PerformFault>
-    requires { IsReady (ready.Program board limit show) }
-    ensures { PerformAnswers (outcome_of (ready.Program board limit show)) (O.meaning out.old) (O.meaning out.new) result }
+    requires { IsReady (ready.Program board.old limit show.now) }
+    ensures { PerformAnswers (outcome_of (ready.Program board.old limit show.now)) (O.meaning out.old) (O.meaning out.new) result }
 {
     match show {
         ReadyProgramShow::Trace(labels) => {
-            program_ran(limit, show_trace(&mut board, &labels, limit, out))
+            program_ran(limit, show_trace(board, labels, limit, out))
         }
-        ReadyProgramShow::Pictures => program_ran(limit, show_pictures(&mut board, limit, out)),
+        ReadyProgramShow::Pictures => program_ran(limit, show_pictures(board, limit, out)),
         ReadyProgramShow::Commands { commands, labels } => program_ran(
             limit,
-            run_program_commands(&mut board, &commands, &labels, limit, out),
+            run_program_commands(board, commands, labels, limit, out),
         ),
     }
 }

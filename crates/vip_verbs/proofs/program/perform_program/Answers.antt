@@ -13,8 +13,8 @@ run_program_commands-requires g c =
     let begins = c.requires.0.begins in
     record { boundary = c.requires.0.boundary; limit = c.requires.1; within = omega (arith, begins) }
 
-pub returns : goal.returns
-returns g c =
-    let s = c.args.board in
+pub returns-in-Commands : goal.returns-in-Commands
+returns-in-Commands g c =
+    let s = c.args.board.now in
     rw (c.in-Commands.is, c.program_ran-in-Commands.ensures)
     (program-debugs c.in-Commands.labels c.args.limit c.in-Commands.commands s _ _ _ _ c.run_program_commands.ensures)
