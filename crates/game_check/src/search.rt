@@ -235,8 +235,7 @@ impl Search<'_> {
         requires met { MayBeMet self.now.edition self.now.game.now (claim_of point.now low high) }
         ensures { OnOk result (StaysMet self.old self.new) }
     {
-        let was_waiting = self.nodes[place].waits;
-        if self.nodes[place].grow(self.edition, low, high) && !was_waiting {
+        if self.nodes[place].grow(self.edition, low, high) {
             self.waiting.push(Reverse((point.pc, place)))?;
         }
         Ok(())
@@ -254,13 +253,14 @@ impl Search<'_> {
         if chain < self.chains.len() {
             self.chains[chain] = Some(place);
         }
-        self.waiting.push(Reverse((claim.point.pc, place)))?;
+        let pc = claim.point.pc;
         self.nodes.push(Node {
             claim,
             growths: 0,
             waits: true,
             behind,
         })?;
+        self.waiting.push(Reverse((pc, place)))?;
         Ok(())
     }
 
@@ -303,14 +303,15 @@ fn keep_behind(claims: &mut Vec<Claim>, claim: &Claim) -> Result<(), AllocError>
 }
 
 impl Node {
-    // Its range grows to what is met. False where it holds that already.
+    // Its range grows to what is met, and it waits where it does. Whether it waits now and didn't before.
     fn grow(&mut self, edition: Edition, low: u16, high: u16) -> bool
         ensures { Grown edition self.old.claim low high self.new.claim }
     {
         if self.claim.low <= low && high <= self.claim.high {
             return false;
         }
-        if !self.waits {
+        let begins = !self.waits;
+        if begins {
             self.growths = self.growths.saturating_add(1);
         }
         self.waits = true;
@@ -328,7 +329,7 @@ impl Node {
         if greatest > self.claim.high {
             self.claim.high = last;
         }
-        true
+        begins
     }
 }
 
