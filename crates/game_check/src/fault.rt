@@ -9,33 +9,27 @@ use thiserror::Error;
 
 /// Why a line of a certificate is refused. The first two are looked for in all lines before the third is, and the third before the others.
 #[derive(Clone, Copy, Debug, Error)]
+#[error("{}", self.name())]
 pub enum ProofCause {
     /// The line has fewer than three or more than fifteen words, some word is not four hexadecimal digits, or the least I is above the
     /// greatest.
-    #[error("BadLine")]
     BadLine,
     /// Its point does not come behind that of the line before.
-    #[error("Order")]
     Order,
     /// No line is of pc 0200 with an empty stack and a least I of 0. It is said of line 1.
-    #[error("NoStart")]
     NoStart,
     /// pc or pc + 1 lies outside game memory.
-    #[error("Outside")]
     Outside,
     /// The opcode is no instruction or calls machine code, is a BMMM, returns with an empty stack, or calls with 12 addresses on it.
-    #[error("Opcode")]
     Opcode,
     /// For some I of the line the instruction reads outside game memory and the font, or writes outside game memory or into the code.
-    #[error("Access")]
     Access,
     /// Some next point has no line, or none that allows all of the next I.
-    #[error("Next")]
     Next,
 }
 
 impl ProofCause {
-    /// Its name, of at most seven characters, which the reports show and its text is.
+    /// Its name, of at most seven characters, which its text and the reports show.
     pub fn name(self) -> &'static str
         ensures text { result.now ≡ proof_cause_name self }
         ensures len { length result.now ≤ 7 }
