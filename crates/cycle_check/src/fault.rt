@@ -12,31 +12,26 @@ use thiserror::Error;
 /// What is wrong with a line of a certificate. The first three are looked for line by line over all lines, in this order in a line; then
 /// `NoEntry`; and then the last two, again line by line.
 #[derive(Clone, Copy, Debug, Error)]
+#[error("{}", self.name())]
 pub enum CertCause {
     /// The first line that says something is no `within` line, or a later one is no line of an address; or no line says anything, which is
     /// said of line 1.
-    #[error("BadLine")]
     BadLine,
     /// A number is not of its digits or out of its range, or the counter register is the program counter.
-    #[error("BadNumber")]
     BadNumber,
     /// The address is not above that of the line before.
-    #[error("Order")]
     Order,
     /// No line has the entry; or its line asks for an X or for a fact, or leaves more cycles than the limit at a counter of 255.
-    #[error("NoEntry")]
     NoEntry,
     /// The opcode at the address is not allowed: a byte of the instruction lies outside the ROM, or the instruction idles, or could change
     /// the program counter or the counter register by another way than its row names.
-    #[error("Opcode")]
     Opcode,
     /// What the line says does not follow from what the lines behind its instruction say.
-    #[error("Step")]
     Step,
 }
 
 impl CertCause {
-    /// Its name, which the reports show and its text is.
+    /// Its name, which its text and the reports show.
     pub fn name(self) -> &'static str
         ensures { result.now ≡ cert_cause_name self }
     {
@@ -75,23 +70,20 @@ impl From<AllocError> for CertFault {
 
 /// Why no certificate of a routine was found.
 #[derive(Clone, Copy, Debug, Error)]
+#[error("{}", self.name())]
 pub enum TimingCause {
     /// Ways lead to the address, and no line is allowed there with an X that all of them give.
-    #[error("Opcode")]
     Opcode,
     /// A turn leads from the address back to it that isn't counted: none of its instructions assigns the counter, or one of them may raise it.
-    #[error("Loop")]
     Loop,
     /// The least BASE at the address, or its STEP, passes 1,000,000.
-    #[error("Most")]
     Most,
     /// Ways lead to the address, and the lines that say one fact each of those that are known are no certificate.
-    #[error("Fact")]
     Fact,
 }
 
 impl TimingCause {
-    /// Its name, which the reports show and its text is.
+    /// Its name, which its text and the reports show.
     pub fn name(self) -> &'static str
         ensures { result.now ≡ timing_cause_name self }
     {
