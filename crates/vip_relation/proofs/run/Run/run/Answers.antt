@@ -12,7 +12,8 @@ use Rattle.chip8_image.specs.Interpreters.{interpreter_of}
 use Rattle.vip_relation.specs.State.{VipState, interpreter, events_waiting}
 use Rattle.vip_relation.specs.Parts.{Makes, Runs}
 use Rattle.vip_relation.specs.Waiting.{waits_by}
-use Rattle.vip_relation.specs.Kept.{state_of}
+use Rattle.vip_relation.specs.Follows.{Follows}
+use Rattle.vip_relation.specs.Kept.{state_of, IsKept}
 use Rattle.vip_relation.specs.declared.run.Waits.{Waits}
 use Rattle.vip_relation.proofs.Passing.{ran, stops, no-stop-here}
 use Rattle.vip_relation.proofs.Steps.{few-moves}
@@ -119,3 +120,32 @@ returns-clause-end g c none = absurd (c.if-made-eq0.false none)
 
 pub returns-clause-kept : goal.returns-clause-kept
 returns-clause-kept g c none = absurd (c.if-made-eq0.false none)
+
+-- ---- where no move was made
+
+nothing : 0 < 0 → ⊥
+nothing some = omega arith
+
+stays : (made : ℕ) (s t : Seen) → t ≡ moved_by made s → made ≡ 0 → t ≡ s
+stays made s t is none = is ∙ ap (λ n. moved_by n s) none
+
+pub invariant_of-self : goal.invariant_of-self
+invariant_of-self g c =
+    let same = stays c.run-made.result c.self.inside.board c.run-made.new.self c.run-made.ensures.made.moves c.if-made-eq0.true in
+    subst (λ s. IsKept (record c.self.inside { board = s })) (sym same) c.self.invariant
+
+pub returns-then-made-eq0-clause-follows : goal.returns-then-made-eq0-clause-follows
+returns-then-made-eq0-clause-follows g c =
+    let same = stays c.run-made.result c.self.inside.board c.run-made.new.self c.run-made.ensures.made.moves c.if-made-eq0.true in
+    subst (λ s. Follows (state_of (record c.self.inside { board = s }))) (sym same) c.self.invariant.follows
+
+pub returns-then-made-eq0-clause-kept : goal.returns-then-made-eq0-clause-kept
+returns-then-made-eq0-clause-kept g c none =
+    let same = stays c.run-made.result c.self.inside.board c.run-made.new.self c.run-made.ensures.made.moves c.if-made-eq0.true in
+    ap (λ s. state_of (record c.self.inside { board = s })) same ∙ c.self.view_is
+
+pub returns-then-made-eq0-clause-moved : goal.returns-then-made-eq0-clause-moved
+returns-then-made-eq0-clause-moved g c some = absurd (nothing some)
+
+pub returns-then-made-eq0-clause-made : goal.returns-then-made-eq0-clause-made
+returns-then-made-eq0-clause-made g c some = absurd (nothing some)
