@@ -19,7 +19,7 @@ module _ {A : Type 0} (J J' : Judged A) (so : (v : Verdict A) → J v → J' v) 
   refused-so refusal by = by-so (cause_of refusal) by
 
 module _ {A B : Type 0} (J : Judged A) (K : A → Judged B) where
-  by-first : (c : Cause) → By J c → By (bind J K) c
+  pub by-first : (c : Cause) → By J c → By (bind J K) c
   by-first Elsewhere by = by
   by-first Memory by = tt
   by-first (Fault status report) by = inl by

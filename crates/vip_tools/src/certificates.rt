@@ -5,7 +5,7 @@ ghost use Rattle.chip8_lang.specs.State.{memory_size};
 ghost use Rattle.cycle_check.specs.Closed.{checked};
 ghost use Rattle.cycle_check.specs.declared.fault.CertFault.TheVariants.{NoMemory};
 ghost use Rattle.vip_tools.specs.Certificates.{CertifyComes, CyclesComes, EntryComes, ProofComes, SafeComes, TimingComes, bytes_at, count_line, exits_asked, made_byte, routine_text, within_line};
-ghost use Rattle.vip_tools.specs.Checks.{CertificateAnswers, RomAnswers};
+ghost use Rattle.vip_tools.specs.Checks.{CertificateAnswers, EnteredAnswers, RomAnswers};
 ghost use Rattle.vip_tools.specs.Files.{most_text, rom_size};
 ghost use Rattle.vip_tools.specs.Judged.{Answers};
 ghost use Rattle.vip_tools.specs.Work.{TextAnswers};
@@ -165,6 +165,18 @@ fn entry_address<'a>(made: &Assembly, entry: Entry) -> Result<u16, Refusal<'a>>
     }
 }
 
+/// The ROM of a source, and the address at which a routine of it is entered.
+fn entered<'a>(alloc: Global, source: &[u8], entry: Entry) -> Result<([u8; 2048], u16), Refusal<'a>>
+    requires { length source.now ≤ most_text }
+    ensures { EnteredAnswers source.now entry result }
+{
+    let made = make_assembly(alloc, Isa::Cdp1802, source)?;
+    let rom = rom_of(&made);
+    are_bytes(&rom);
+    let address = entry_address(&made, entry)?;
+    Ok((rom, address))
+}
+
 /// Assembles a source of at most 1,048,576 bytes into a ROM, and searches for a certificate of the routine of it that is entered at an address or a name
 /// with R(P) as its program counter, and counts by R(K).
 pub fn timing<'a>(
@@ -177,10 +189,7 @@ pub fn timing<'a>(
     requires { length source.now ≤ most_text }
     ensures { TextAnswers (TimingComes source.now entry p k) result }
 {
-    let made = make_assembly(alloc, Isa::Cdp1802, source)?;
-    let rom = rom_of(&made);
-    are_bytes(&rom);
-    let address = entry_address(&made, entry)?;
+    let (rom, address) = entered(alloc, source, entry)?;
     match find_timing(alloc, &rom, address, p, k) {
         Ok(text) => Ok(text),
         Err(TimingFault::NotFound(obstacle)) => {
