@@ -1,5 +1,21 @@
+use Rattle.asm_lex.specs.declared.shape.Isa.TheVariants.{Cdp1802}
+use Rattle.vip_tools.specs.Code.{ImageAnswers, LaidComes}
+use Rattle.vip_words.specs.declared.request.Code.TheVariants.{Source}
+use Rattle.vip_tools.specs.Opening.{SourceComes}
 use Rattle.vip_tools.proofs.CodeLemmas.{made-image}
+use Rattle.vip_tools.proofs.JudgedLemmas.{refused-first}
+use Rattle.vip_tools.proofs.WorkLemmas.{passed}
 use Rattle.vip_tools.proofs.code.program.Goals as goal
+
+pub make_assembly-requires : goal.make_assembly-requires
+make_assembly-requires c = let fit = rw c.in-Source.is at c.requires in rw c.as_slice.ensures.value fit.fits
+
+pub returns-in_err-made-in-Source : goal.returns-in_err-made-in-Source
+returns-in_err-made-in-Source c =
+    let text = c.in-Source.text.items in
+    rw c.in-Source.is
+    (passed (ImageAnswers c.args.memory (Source text)) _ _ c.from_residual.ensures.1
+    (refused-first (SourceComes Cdp1802 text) (λ made. LaidComes text) _ (rw c.as_slice.ensures.value at c.in_err-made-in-Source.ensures)))
 
 pub returns-in_ok-made-in-Source : goal.returns-in_ok-made-in-Source
 returns-in_ok-made-in-Source c =
