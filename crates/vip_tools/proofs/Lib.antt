@@ -1,5 +1,6 @@
 pub mod DemoLemmas
 pub mod FilesLemmas
+mod JoinLemmas
 mod LoadingLemmas
 pub mod JudgedLemmas
 pub mod WorkLemmas

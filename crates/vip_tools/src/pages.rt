@@ -2,11 +2,11 @@
 
 ghost use Rattle.std.specs.Prelude.{◌++◌, ◌≡◌, flat_map, IfOk, OnOk};
 ghost use Rattle.vip_words.specs.Usage.{row_of};
-ghost use Rattle.vip_tools.specs.Help.{option_column, option_line, option_text, padded, verb_column, verb_line, verb_page, verbs_page, with_words, word_text, HelpComes, VersionComes};
+ghost use Rattle.vip_tools.specs.Help.{option_line, option_text, padded, verb_line, verb_page, verbs_page, with_words, word_text, HelpComes, VersionComes};
 ghost use Rattle.vip_tools.specs.Work.{TextAnswers};
 
 use crate::Refusal;
-use crate::report::line;
+use crate::report::{append, line};
 use std::alloc::{AllocError, Global};
 use vip_words::{Row, VERBS, Verb, about, with_value};
 
@@ -32,12 +32,9 @@ fn append_word(text: &mut Vec<u8>, may_be_left_out: bool, word: &str) -> Result<
     ensures { OnOk result (text.new.items ≡ text.old.items ++ word_text may_be_left_out word.now) }
 {
     if may_be_left_out {
-        text.extend_from_slice(b" [")?;
-        text.extend_from_slice(word.as_bytes())?;
-        text.extend_from_slice(b"]")
+        append(text, &[b" [", word.as_bytes(), b"]"])
     } else {
-        text.extend_from_slice(b" ")?;
-        text.extend_from_slice(word.as_bytes())
+        append(text, &[b" ", word.as_bytes()])
     }
 }
 

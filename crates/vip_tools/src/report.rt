@@ -1,6 +1,6 @@
 //! The reports on the error output, each a line that goes out by one put.
 
-ghost use Rattle.std.specs.Prelude.{◌≡◌, [], codes, IfOk};
+ghost use Rattle.std.specs.Prelude.{◌≡◌, ◌++◌, [], codes, IfOk, OnOk};
 ghost use Rattle.std.specs.List.{flat_map};
 ghost use Rattle.chip8_lang.specs.State.{memory_size};
 ghost use Rattle.vip_outside.specs.Pieces.{StreamAnswers};
@@ -25,14 +25,22 @@ use vip_byte::{Buffer, MOST_TEXT, hex2, hex4, put, put_number};
 use vip_outside::{Failed, Sink};
 use vip_text::{RunEnd, StateFault, idle_text, stop_text};
 
+/// Appends these parts.
+pub(crate) fn append(text: &mut Vec<u8>, parts: &[&[u8]]) -> Result<(), AllocError>
+    ensures { OnOk result (text.new.items ≡ text.old.items ++ flat_map (λ part. part.now) parts.now) }
+{
+    for part in parts {
+        text.extend_from_slice(part)?;
+    }
+    Ok(())
+}
+
 /// A line of these parts.
 pub(crate) fn line(alloc: Global, parts: &[&[u8]]) -> Result<Vec<u8>, AllocError>
     ensures { IfOk result (λ line. line.items ≡ flat_map (λ part. part.now) parts.now) }
 {
     let mut line = Vec::new(alloc);
-    for part in parts {
-        line.extend_from_slice(part)?;
-    }
+    append(&mut line, parts)?;
     Ok(line)
 }
 
