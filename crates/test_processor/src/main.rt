@@ -15,15 +15,14 @@ mod memory_rows;
 mod on_board;
 mod preamble;
 mod schedules;
+mod setup;
 mod small_rom;
 mod test_bus;
 mod vector;
 
 use crate::preamble::Preamble;
-use crate::small_rom::SmallRom;
 use crate::test_bus::TestBus;
-use crate::vector::{State, Vector, VectorFault};
-use std::alloc::Global;
+use crate::vector::{State, Vector};
 use std::fs;
 use vip_cpu::{Cpu, Did};
 
@@ -65,7 +64,7 @@ fn makes_moves(cpu: &mut Cpu, bus: &mut TestBus, vector: &Vector, idle: u16) -> 
 /// A processor that was brought into the state before a vector, by instructions that the vector's memory has no part of.
 fn processor_before(vector: &Vector, bus: &mut TestBus) -> Cpu {
     let preamble = Preamble::of(&vector.before, 0);
-    let mut cpu = Cpu::from_parts(&preamble.parts());
+    let mut cpu = Cpu::from_parts(&preamble.state().parts());
     bus.lay(preamble.address(), preamble.bytes());
     for _cycle in 0..preamble.cycles() {
         let _ = cpu.cycle(bus, false, false);
@@ -98,12 +97,10 @@ struct Counts {
 }
 
 impl Counts {
-    fn none() -> Counts {
-        Counts {
-            passed: 0,
-            failed: 0,
-        }
-    }
+    const NONE: Counts = Counts {
+        passed: 0,
+        failed: 0,
+    };
 
     fn add(&mut self, passes: bool) {
         if passes {
@@ -133,37 +130,13 @@ fn judge(
     Ok(())
 }
 
-/// Takes a line of the text of small ROMs.
-fn add_line(roms: &mut Vec<SmallRom>, alloc: Global, line: &str) -> Result<(), VectorFault> {
-    let (word, rest) = line.split_once(' ').unwrap_or((line, ""));
-    if word == "board" {
-        roms.push(SmallRom::new(alloc, rest)?)?;
-        return Ok(());
-    }
-    match roms.last_mut() {
-        Some(rom) => rom.add(word, rest),
-        None => Err(VectorFault::NotAVector),
-    }
-}
-
-/// The small ROMs of a text.
-fn small_roms_of(alloc: Global, text: &str) -> Result<Vec<SmallRom>, VectorFault> {
-    let mut roms = Vec::new(alloc);
-    for line in text.lines() {
-        let line = line.trim_start();
-        if !line.is_empty() && !line.starts_with('#') {
-            add_line(&mut roms, alloc, line)?;
-        }
-    }
-    Ok(roms)
-}
-
 /// Runs the small ROMs of a text, and writes the name of each that doesn't come to what is due.
 fn run_small_roms(rt: &HostRuntime, text: &str) -> anyhow::Result<()> {
-    let mut counts = Counts::none();
-    for rom in small_roms_of(rt.alloc(), text)?.iter() {
-        let passes = rom.passes(rt.alloc())?;
-        judge(rt, &mut counts, passes, "differs", &rom.name)?;
+    let mut counts = Counts::NONE;
+    for rom in text.split("\nboard ").skip(1) {
+        let (name, lines) = rom.split_once('\n').unwrap_or((rom, ""));
+        let passes = small_rom::passes(rt.alloc(), lines)?;
+        judge(rt, &mut counts, passes, "differs", name)?;
     }
     write_counts(rt, "small ROMs on the board", &counts)
 }
@@ -180,7 +153,7 @@ fn write_counts(rt: &HostRuntime, what: &str, counts: &Counts) -> anyhow::Result
 }
 
 /// The vectors that passed and failed, and those of them that ran on the board.
-#[derive(Drop)]
+#[derive(Clone, Copy)]
 struct Tried {
     alone: Counts,
     on_board: Counts,
@@ -198,41 +171,47 @@ impl Tried {
         }
         Ok(())
     }
+
+    /// Runs the vectors of a text.
+    fn add_each(&mut self, rt: &HostRuntime, bus: &mut TestBus, text: &str) -> anyhow::Result<()> {
+        for line in text.lines() {
+            if !line.starts_with('#') {
+                self.add(rt, bus, line)?;
+            }
+        }
+        Ok(())
+    }
 }
 
-/// Runs the vectors of a text.
+/// Runs the vectors of a text, and writes how many passed.
 fn run_vectors(rt: &HostRuntime, text: &str) -> anyhow::Result<()> {
-    let mut bus = TestBus::new(rt.alloc())?;
     let mut tried = Tried {
-        alone: Counts::none(),
-        on_board: Counts::none(),
+        alone: Counts::NONE,
+        on_board: Counts::NONE,
     };
-    for line in text.lines() {
-        if !line.starts_with('#') {
-            tried.add(rt, &mut bus, line)?;
-        }
-    }
+    tried.add_each(rt, &mut TestBus::new(rt.alloc())?, text)?;
     write_counts(rt, "vectors", &tried.alone)?;
     write_counts(rt, "of them on the board", &tried.on_board)
 }
 
-/// Tries the rows of a memory.
-fn run_memory_rows(rt: &HostRuntime) -> anyhow::Result<()> {
-    write_counts(rt, "rows of a memory", &memory_rows::rows(rt.alloc())?)
-}
-
 /// Runs two joined boards under many schedules.
 fn run_schedules(rt: &HostRuntime) -> anyhow::Result<()> {
-    write_counts(rt, "rows of two boards", &schedules::rows(rt.alloc())?)?;
+    let rows = schedules::rows(rt.alloc())?;
     let short = schedules::around_each_hand_over(rt.alloc())?;
-    write_counts(rt, "schedules of 16 moves around hand-overs", &short)?;
     let random = schedules::at_random(rt.alloc())?;
-    write_counts(rt, "random schedules", &random)
+    for (what, counts) in [
+        ("rows of two boards", rows),
+        ("schedules of 16 moves around hand-overs", short),
+        ("random schedules", random),
+    ] {
+        write_counts(rt, what, &counts)?;
+    }
+    Ok(())
 }
 
 fn main(rt: HostRuntime) -> anyhow::Result<()> {
     run_vectors(&rt, &fs::read_to_string(&rt, "vectors.txt")?)?;
-    run_memory_rows(&rt)?;
+    write_counts(&rt, "rows of a memory", &memory_rows::rows(rt.alloc())?)?;
     run_small_roms(&rt, &fs::read_to_string(&rt, "boards.txt")?)?;
     run_schedules(&rt)
 }

@@ -1,41 +1,74 @@
 //! The rows of a memory with ROM byte 69 (hexadecimal) at 8000, and 00 elsewhere in RAM and ROM.
 
-ghost use Rattle.std.specs.Prelude.{◌≡◌, IfOk};
-
 use crate::Counts;
 use std::alloc::{AllocError, Global};
 use vip_memory::Memory;
 
-fn memory(alloc: Global) -> Result<Memory, AllocError> {
-    let mut rom = vec![in alloc; 0; 0x800]?;
-    rom[0] = 0x69;
-    Memory::new(alloc, &rom)
+/// What is done before a row.
+#[derive(Clone, Copy)]
+enum Act {
+    Nothing,
+    Write(u16, u8),
+    ClearLatch,
 }
 
-/// Whether a page is lent that has 256 bytes and begins with this one.
-fn lends(memory: &Memory, high: u8, byte: u8) -> bool {
-    match memory.page(high) {
-        Some(page) => page.len() == 256 && page[0] == byte,
-        None => false,
+/// What is due then.
+#[derive(Clone, Copy)]
+enum Due {
+    /// An address reads a byte.
+    Reads(u16, u8),
+    /// A page is lent that has 256 bytes and begins with a byte.
+    Lends(u8, u8),
+    /// A page isn't lent.
+    Keeps(u8),
+}
+
+/// The rows, with the boot latch set at first.
+#[rattlefmt::skip]
+const ROWS: &[(Act, Due)] = &[
+    (Act::Nothing, Due::Reads(0x0000, 0x69)),
+    (Act::Write(0x0300, 0x05), Due::Lends(0x03, 0x00)),
+    (Act::ClearLatch, Due::Reads(0x0000, 0x00)),
+    (Act::Write(0x0300, 0x05), Due::Reads(0x0300, 0x05)),
+    (Act::Nothing, Due::Reads(0x1000, 0xFF)),
+    (Act::Write(0x8000, 0x01), Due::Reads(0x8000, 0x69)),
+    (Act::Nothing, Due::Keeps(0x10)),
+    (Act::Nothing, Due::Keeps(0x88)),
+    (Act::Nothing, Due::Lends(0x80, 0x69)),
+];
+
+fn make(memory: &mut Memory, act: Act) {
+    match act {
+        Act::Nothing => {}
+        Act::Write(address, byte) => memory.write(address, byte),
+        Act::ClearLatch => memory.clear_latch(),
     }
 }
 
-/// Tries the rows: with the boot latch set, and then with the latch clear.
+fn is_met(memory: &Memory, due: Due) -> bool {
+    match due {
+        Due::Reads(address, byte) => memory.read(address) == byte,
+        Due::Lends(high, byte) => match memory.page(high) {
+            Some(page) => page.len() == 256 && page[0] == byte,
+            None => false,
+        },
+        Due::Keeps(high) => memory.page(high).is_none(),
+    }
+}
+
+fn try_rows(memory: &mut Memory) -> Counts {
+    let mut counts = Counts::NONE;
+    for (before, due) in ROWS {
+        make(memory, *before);
+        counts.add(is_met(memory, *due));
+    }
+    counts
+}
+
+/// Tries the rows.
 pub fn rows(alloc: Global) -> Result<Counts, AllocError> {
-    let mut counts = Counts::none();
-    let mut memory = memory(alloc)?;
-    counts.add(memory.read(0x0000) == 0x69);
-    memory.write(0x0300, 0x05);
-    counts.add(lends(&memory, 0x03, 0x00));
-    memory.clear_latch();
-    counts.add(memory.read(0x0000) == 0x00);
-    memory.write(0x0300, 0x05);
-    counts.add(memory.read(0x0300) == 0x05);
-    counts.add(memory.read(0x1000) == 0xFF);
-    memory.write(0x8000, 0x01);
-    counts.add(memory.read(0x8000) == 0x69);
-    counts.add(memory.page(0x10).is_none());
-    counts.add(memory.page(0x88).is_none());
-    counts.add(lends(&memory, 0x80, 0x69));
-    Ok(counts)
+    let mut rom = [0; 0x800];
+    rom[0] = 0x69;
+    let mut memory = Memory::new(alloc, &rom)?;
+    Ok(try_rows(&mut memory))
 }

@@ -4,14 +4,15 @@
 //! video chip asks for these cycles then and for no other. The instructions that bring the board into the state before it lie in the cycles
 //! right before that one, and begin where the chip requests neither DMA nor an interrupt.
 
-ghost use Rattle.std.specs.Prelude.{◌≡◌, ◌<◌, IfOk, length};
+ghost use Rattle.std.specs.Prelude.{◌≡◌};
 
 use crate::preamble::Preamble;
-use crate::vector::{State, Vector, VectorFault};
+use crate::setup::{KEY, Setup};
+use crate::vector::{State, Vector, word};
 use std::alloc::Global;
 use vip_board::{Board, Move, Moved};
 use vip_cpu::Phase;
-use vip_keypad::{Script, read_script};
+use vip_keypad::ScriptFault;
 
 /// The machine cycles of a raster line, and of a frame.
 const LINE: u64 = 14;
@@ -23,8 +24,8 @@ const INTERRUPT: u64 = 78 * LINE;
 
 const INTERRUPT_END: u64 = 80 * LINE;
 
-/// The key that is latched. The script holds it down where EF3 is active.
-const KEY: u8 = 5;
+/// The key script where EF3 is active: it holds the latched key down.
+const DOWN: &str = "0 down 5";
 
 /// The cycle after a vector's last one. It lies in the second frame, so that the processor may idle for a while before it.
 fn end_of(vector: &Vector) -> u64 {
@@ -49,31 +50,17 @@ fn end_of(vector: &Vector) -> u64 {
 }
 
 /// Bytes of memory from an address on, as a vector has them.
-fn fill(bytes: &mut [u8], from: u16, vector: &Vector)
-    ensures { length bytes.new ≡ length bytes.old }
-{
-    for &[high, low, byte] in vector.memory.iter() {
-        let address = high as u16 * 256 + low as u16;
-        let place = address.wrapping_sub(from) as usize;
+fn fill(bytes: &mut [u8], from: u16, vector: &Vector) {
+    for &[high, low, byte] in vector.memory.as_slice().iter() {
+        let place = word(high, low).wrapping_sub(from) as usize;
         if place < bytes.len() {
             bytes[place] = byte;
         }
     }
 }
 
-/// RAM as a vector has it.
-fn ram_of(alloc: Global, vector: &Vector) -> Result<Vec<u8>, VectorFault>
-    ensures { IfOk result (λ ram. length ram.items ≡ 0x1000) }
-{
-    let mut ram = vec![in alloc; 0; 0x1000]?;
-    fill(&mut ram, 0, vector);
-    Ok(ram)
-}
-
 /// Lays the instructions before a vector into RAM.
-fn lay(ram: &mut [u8], preamble: &Preamble)
-    ensures { length ram.new ≡ length ram.old }
-{
+fn lay(ram: &mut [u8], preamble: &Preamble) {
     let mut place = preamble.address();
     for byte in preamble.bytes().iter() {
         let at = place as usize;
@@ -96,43 +83,28 @@ fn preamble_of(vector: &Vector, t: u64) -> Preamble {
     Preamble::of(&vector.before, fillers as usize)
 }
 
-/// A board that was brought into the state before a vector which begins in this cycle, with memory as the vector has it.
-fn board_before(alloc: Global, vector: &Vector, t: u64) -> Result<Board, VectorFault>
-    ensures { IfOk result (λ board. board.phase ≡ Phase.Boundary) }
-{
-    let ram = ram_of(alloc, vector)?;
-    let mut first = ram_of(alloc, vector)?;
-    let mut rom = vec![in alloc; 0; 0x800]?;
-    fill(&mut rom, 0x8000, vector);
-    let script = script_of(alloc, vector.flags[2])?;
-    let preamble = preamble_of(vector, t);
-    lay(&mut first, &preamble);
-    let parts = preamble.parts();
+/// Memory and keys as a vector has them, and the processor before the instructions that bring the board into the state before it.
+fn setup_before(vector: &Vector, preamble: &Preamble, t: u64) -> Setup<'static> {
+    let mut setup = Setup::empty();
+    fill(&mut setup.ram, 0, vector);
+    fill(&mut setup.rom, 0x8000, vector);
+    if vector.flags[2] {
+        setup.keys = DOWN;
+    }
     let start = t.saturating_sub(u64::from(preamble.cycles()));
-    let mut board = Board::restore(alloc, &rom, &script, &parts, &first, KEY, start)?;
-    make_all(&mut board, preamble.count());
-    board.load(0, &ram);
-    Ok(board)
+    setup.start = Some((preamble.state(), start));
+    setup
 }
 
-/// Makes so many moves.
-fn make_all(board: &mut Board, count: u16)
+/// Brings a board into the state before a vector, with RAM as the vector has it.
+fn bring(board: &mut Board, preamble: &Preamble, ram: &[u8; 0x1000])
     requires { board.old.phase ≡ Phase.Boundary }
     ensures { board.new.phase ≡ Phase.Boundary }
 {
-    for _move in 0..count {
+    for _move in 0..preamble.count() {
         let _ = board.to_boundary(u64::MAX);
     }
-}
-
-fn script_of(alloc: Global, down: bool) -> Result<Script, VectorFault> {
-    if !down {
-        return Ok(Script::empty(alloc));
-    }
-    match read_script(alloc, b"0 down 5\n") {
-        Ok(script) => Ok(script),
-        Err(_) => Err(VectorFault::NoMemory),
-    }
+    board.load(0, ram);
 }
 
 /// Makes so many moves. False where one is of another kind.
@@ -150,8 +122,8 @@ fn makes(board: &mut Board, want: Move, count: u16) -> bool
 
 /// RAM, ROM, the boot latch, the display switch and the latched key are as before the vector.
 fn is_kept(board: &Board, vector: &Vector) -> bool {
-    for &[high, low, byte] in vector.memory.iter() {
-        if board.memory().read(high as u16 * 256 + low as u16) != byte {
+    for &[high, low, byte] in vector.memory.as_slice().iter() {
+        if board.memory().read(word(high, low)) != byte {
             return false;
         }
     }
@@ -175,28 +147,38 @@ fn is_due(board: &Board, vector: &Vector, end: u64) -> bool
     board.now() == end
         && board.next_is_instruction()
         && State::of(board.cpu()) == vector.after
-        && vector.calls.is_empty()
+        && vector.calls.as_slice().is_empty()
         && is_kept(board, vector)
 }
 
-/// Whether the moves of a board are those of a vector and leave what the vector says.
-pub fn passes(alloc: Global, vector: &Vector) -> Result<bool, VectorFault> {
-    let end = end_of(vector);
-    let t = end.saturating_sub(u64::from(vector.cycles));
-    let mut board = board_before(alloc, vector, t)?;
+/// Whether the moves of a board that begin at a cycle are those of a vector, and leave what the vector says.
+fn follows(board: &mut Board, vector: &Vector, t: u64, end: u64) -> bool
+    requires { board.old.phase ≡ Phase.Boundary }
+{
     if board.now() != t || State::of(board.cpu()) != vector.before {
-        return Ok(false);
+        return false;
     }
     let first = Move::Instruction(vector.before.counter());
-    let begins = makes(&mut board, first, vector.kind.has_instruction as u16);
+    let begins = makes(board, first, vector.kind.has_instruction as u16);
     let signalled = vector.signals.cycles();
     let idle = end
         .saturating_sub(board.now())
         .saturating_sub(u64::from(signalled));
-    Ok(
-        begins
-            && idle < 65536
-            && makes_signalled(&mut board, vector, idle as u16)
-            && is_due(&board, vector, end),
-    )
+    begins
+        && idle < 65536
+        && makes_signalled(board, vector, idle as u16)
+        && is_due(board, vector, end)
+}
+
+/// Whether a board does what a vector says.
+pub fn passes(alloc: Global, vector: &Vector) -> Result<bool, ScriptFault> {
+    let end = end_of(vector);
+    let t = end.saturating_sub(u64::from(vector.cycles));
+    let preamble = preamble_of(vector, t);
+    let mut setup = setup_before(vector, &preamble, t);
+    let ram = setup.ram;
+    lay(&mut setup.ram, &preamble);
+    let mut board = setup.board(alloc)?;
+    bring(&mut board, &preamble, &ram);
+    Ok(follows(&mut board, vector, t, end))
 }

@@ -7,7 +7,6 @@
 ghost use Rattle.std.specs.Prelude.{◌<◌, ◌≤◌};
 
 use crate::vector::State;
-use vip_cpu::Parts;
 
 /// The opcodes of DIS, and of SEX 0.
 const DIS: u8 = 0x71;
@@ -65,17 +64,14 @@ impl Preamble {
         self.state.counter().wrapping_sub(self.length as u16)
     }
 
-    /// The parts of a processor before the first one.
-    pub fn parts(&self) -> Parts
-        ensures x { result.x < 16 }
-        ensures p { result.p < 16 }
-    {
+    /// The state of a processor before the first one, but that interrupts are enabled.
+    pub fn state(&self) -> State {
         let p = self.state.xp % 16;
-        let mut parts = self.state.parts();
+        let mut state = self.state;
         if self.length > 0 {
-            parts.x = p;
-            parts.r[p as usize] = self.address();
+            state.xp = p * 16 + p;
+            state.r[p as usize] = self.address();
         }
-        parts
+        state
     }
 }

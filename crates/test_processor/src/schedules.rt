@@ -4,13 +4,18 @@
 //! one more. In the end B received the whole message. Before them come the rows that were worked out by hand.
 
 use crate::Counts;
-use std::alloc::Global;
+use std::alloc::{AllocError, Global};
 use vip_board::{Board, Wire};
 use vip_keypad::Script;
 use vip_link::{Link, LinkFault, Side, check_link};
 
 /// The lengths of the messages under random schedules.
-const LENGTHS: [u32; 7] = [0, 1, 2, 255, 256, 257, 3_000];
+const LENGTHS: [usize; 7] = [0, 1, 2, 255, 256, 257, 3_000];
+
+/// The bytes of the longest message, and a message with one more.
+const MOST_BYTES: usize = 3_000;
+
+const TOO_LONG: [u8; 3_001] = [0; 3_001];
 
 /// How many random schedules there are.
 const RANDOM: u32 = 1_000;
@@ -64,60 +69,67 @@ fn brought(link: &Link, sent: u32, received: &[u8]) -> bool {
     link.sent() == sent && link.received() == received
 }
 
-/// Tries the rows: no move, 1,000 moves of A alone, 160 pairs A, B, a byte on a full wire, one byte too many, and both ROMs against their texts.
-pub fn rows(alloc: Global) -> Result<Counts, LinkFault> {
-    let mut counts = Counts::none();
-    try_alone(alloc, &mut counts)?;
-    counts.add(full_wire_keeps(alloc)?);
-    counts.add(pairs_bring(alloc)?);
-    counts.add(refuses_too_long(alloc)?);
-    counts.add(check_link(alloc).is_ok());
-    Ok(counts)
+/// How a link is moved, and what comes of it.
+#[derive(Clone, Copy)]
+enum Plan {
+    /// No move sends nothing.
+    Rest,
+    /// 1,000 moves of A alone send one byte.
+    Alone,
+    /// 160 pairs A, B bring the message.
+    Pairs,
+    /// Behind so many moves in turn the next one puts a byte on the wire or takes it.
+    HandsOver(u32),
+    /// Behind so many moves in turn come those of a schedule, a bit a move, and then enough to bring the message.
+    Short(u32, u16),
+    /// 40 times so many random moves bring the message, by the schedules of a number.
+    Random(u32, u32),
 }
 
-/// Tries no move, and 1,000 moves of A alone, which send one byte.
-fn try_alone(alloc: Global, counts: &mut Counts) -> Result<(), LinkFault> {
-    let mut link = Link::new(alloc, SHORT)?;
-    counts.add(brought(&link, 0, b""));
+/// Moves a link by a plan. False where not what is due comes of it, or a move leaves what is no part of the message.
+fn comes_true(link: &mut Link, message: &[u8], plan: Plan) -> bool {
+    match plan {
+        Plan::Rest => brought(link, 0, b""),
+        Plan::Alone => sends_one(link),
+        Plan::Pairs => brings(link, 320),
+        Plan::HandsOver(number) => hands_over(link, number),
+        Plan::Short(before, schedule) => {
+            alternate(link, before);
+            follows(link, schedule) && brings(link, ENOUGH)
+        }
+        Plan::Random(number, moves) => {
+            follows_random(link, message, number, moves) && link.received() == message
+        }
+    }
+}
+
+/// Tries a plan with a message.
+fn tries(alloc: Global, message: &[u8], plan: Plan) -> Result<bool, LinkFault> {
+    let mut link = Link::new(alloc, message)?;
+    Ok(comes_true(&mut link, message, plan))
+}
+
+/// Makes 1,000 moves of A alone. Answers whether they send one byte.
+fn sends_one(link: &mut Link) -> bool {
     for _move in 0..1_000 {
-        step(&mut link, Side::A);
+        step(link, Side::A);
     }
-    counts.add(brought(&link, 1, b""));
-    Ok(())
+    brought(link, 1, b"")
 }
 
-/// Makes a move of a board with wires, at its start.
-fn move_linked(board: &mut Board, incoming: &mut Wire, outgoing: &mut Wire) {
-    if board.cpu().at_boundary() && board.now() < 100 {
-        board.make_linked(incoming, outgoing);
-    }
+/// Makes so many moves in turn. Answers whether they bring the short message.
+fn brings(link: &mut Link, moves: u32) -> bool {
+    alternate(link, moves);
+    brought(link, 2, SHORT)
 }
 
-/// Whether a byte is lost that a board sends while its wire is full: it sends 41 and then 42, and doesn't look at EF4.
-fn full_wire_keeps(alloc: Global) -> Result<bool, LinkFault> {
-    let mut rom = [0; 0x800];
-    rom[..4].copy_from_slice(&[0x63, 0x41, 0x63, 0x42]);
-    let mut board = Board::reset(alloc, &rom, &Script::empty(alloc))?;
-    let mut incoming = Wire::new();
-    let mut outgoing = Wire::new();
-    for _move in 0..2 {
-        move_linked(&mut board, &mut incoming, &mut outgoing);
-    }
-    Ok(outgoing.full() == Some(0x41) && board.cpu().r(0) == 4)
-}
-
-/// Whether 160 pairs A, B bring the message.
-fn pairs_bring(alloc: Global) -> Result<bool, LinkFault> {
-    let mut link = Link::new(alloc, SHORT)?;
-    alternate(&mut link, 320);
-    Ok(brought(&link, 2, SHORT))
-}
-
-/// Whether a message is refused that has one byte too many.
-fn refuses_too_long(alloc: Global) -> Result<bool, LinkFault> {
-    let message = vec![in alloc; 0; 3_001]?;
-    let made = Link::new(alloc, &message);
-    Ok(matches!(made, Err(LinkFault::MessageTooLarge(3_001))))
+/// Makes so many moves in turn and one more. Answers whether that one puts a byte on the wire or takes it.
+fn hands_over(link: &mut Link, number: u32) -> bool {
+    alternate(link, number);
+    let sent = link.sent();
+    let received = link.received().len();
+    step(link, in_turn(number));
+    link.sent() != sent || link.received().len() != received
 }
 
 /// Makes the moves of a schedule, a bit a move. False where a move leaves what is no part of the message.
@@ -131,59 +143,6 @@ fn follows(link: &mut Link, schedule: u16) -> bool {
     true
 }
 
-/// Makes moves enough to bring the message. Answers whether they bring it.
-fn brings(link: &mut Link) -> bool {
-    alternate(link, ENOUGH);
-    brought(link, 2, SHORT)
-}
-
-/// Makes the moves of a schedule behind so many in turn, and then enough to bring the message.
-fn passes(alloc: Global, before: u32, schedule: u16) -> Result<bool, LinkFault> {
-    let mut link = Link::new(alloc, SHORT)?;
-    alternate(&mut link, before);
-    Ok(follows(&mut link, schedule) && brings(&mut link))
-}
-
-/// Tries every schedule of 16 moves behind so many in turn.
-fn try_each(alloc: Global, before: u32, counts: &mut Counts) -> Result<(), LinkFault> {
-    for schedule in 0..=u16::MAX {
-        counts.add(passes(alloc, before, schedule)?);
-    }
-    Ok(())
-}
-
-/// Makes the move of a number of both in turn. Answers whether it puts a byte on the wire or takes it.
-fn hands_over(link: &mut Link, number: u32) -> bool {
-    let sent = link.sent();
-    let received = link.received().len();
-    step(link, in_turn(number));
-    link.sent() != sent || link.received().len() != received
-}
-
-/// Tries every schedule of 16 moves around each move of a run in turn that puts a byte on the wire or takes it.
-pub fn around_each_hand_over(alloc: Global) -> Result<Counts, LinkFault> {
-    let mut counts = Counts::none();
-    let mut link = Link::new(alloc, SHORT)?;
-    for number in 0..ENOUGH {
-        if hands_over(&mut link, number) {
-            try_each(alloc, number.saturating_sub(BEFORE), &mut counts)?;
-        }
-    }
-    Ok(counts)
-}
-
-/// A message of so many bytes, in which all bytes come in turn.
-fn message_of(alloc: Global, length: u32, number: u32) -> Result<Vec<u8>, LinkFault> {
-    let mut message = vec![in alloc; 0; length as usize]?;
-    let step = (number % 256) as u8 | 1;
-    let mut next = 0u8;
-    for byte in message.iter_mut() {
-        *byte = next;
-        next = next.wrapping_add(step);
-    }
-    Ok(message)
-}
-
 /// Makes 40 times so many random moves. False where some leave what is no part of the message.
 fn follows_random(link: &mut Link, message: &[u8], number: u32, moves: u32) -> bool {
     for part in 0..40 {
@@ -195,20 +154,78 @@ fn follows_random(link: &mut Link, message: &[u8], number: u32, moves: u32) -> b
     true
 }
 
-/// Tries the random schedule of a number.
-fn passes_random(alloc: Global, number: u32) -> Result<bool, LinkFault> {
-    let length = LENGTHS[(number % 7) as usize];
-    let message = message_of(alloc, length, number)?;
-    let mut link = Link::new(alloc, &message)?;
-    let moves = length.saturating_add(4);
-    Ok(follows_random(&mut link, &message, number, moves) && link.received() == message.as_slice())
+/// Whether a byte is lost that a board sends while its wire is full.
+fn keeps(board: &mut Board) -> bool {
+    let mut incoming = Wire::new();
+    let mut outgoing = Wire::new();
+    for _move in 0..2 {
+        if board.cpu().at_boundary() && board.now() < 100 {
+            board.make_linked(&mut incoming, &mut outgoing);
+        }
+    }
+    outgoing.full() == Some(0x41) && board.cpu().r(0) == 4
+}
+
+/// Tries that with a board which sends 41 and then 42, and doesn't look at EF4.
+fn full_wire_keeps(alloc: Global) -> Result<bool, AllocError> {
+    let mut rom = [0; 0x800];
+    rom[..4].copy_from_slice(&[0x63, 0x41, 0x63, 0x42]);
+    let mut board = Board::reset(alloc, &rom, &Script::empty(alloc))?;
+    Ok(keeps(&mut board))
+}
+
+/// Tries the rows: no move, 1,000 moves of A alone, 160 pairs A, B, a byte on a full wire, one byte too many, and both ROMs against their texts.
+pub fn rows(alloc: Global) -> Result<Counts, LinkFault> {
+    let mut counts = Counts::NONE;
+    for plan in [Plan::Rest, Plan::Alone, Plan::Pairs] {
+        counts.add(tries(alloc, SHORT, plan)?);
+    }
+    counts.add(full_wire_keeps(alloc)?);
+    let refused = tries(alloc, &TOO_LONG, Plan::Rest);
+    counts.add(matches!(refused, Err(LinkFault::MessageTooLarge(3_001))));
+    counts.add(check_link(alloc).is_ok());
+    Ok(counts)
+}
+
+/// Tries every schedule of 16 moves behind so many in turn.
+fn try_each(alloc: Global, before: u32, counts: &mut Counts) -> Result<(), LinkFault> {
+    for schedule in 0..=u16::MAX {
+        counts.add(tries(alloc, SHORT, Plan::Short(before, schedule))?);
+    }
+    Ok(())
+}
+
+/// Tries every schedule of 16 moves around each move of a run in turn that puts a byte on the wire or takes it.
+pub fn around_each_hand_over(alloc: Global) -> Result<Counts, LinkFault> {
+    let mut counts = Counts::NONE;
+    for number in 0..ENOUGH {
+        if tries(alloc, SHORT, Plan::HandsOver(number))? {
+            try_each(alloc, number.saturating_sub(BEFORE), &mut counts)?;
+        }
+    }
+    Ok(counts)
+}
+
+/// The longest message, in which all bytes come in turn, by the step of a number.
+fn message_of(number: u32) -> [u8; MOST_BYTES] {
+    let mut message = [0; MOST_BYTES];
+    let step = (number % 256) as u8 | 1;
+    let mut next = 0u8;
+    for byte in message.iter_mut() {
+        *byte = next;
+        next = next.wrapping_add(step);
+    }
+    message
 }
 
 /// Tries random schedules, with messages of several lengths.
 pub fn at_random(alloc: Global) -> Result<Counts, LinkFault> {
-    let mut counts = Counts::none();
+    let mut counts = Counts::NONE;
     for number in 0..RANDOM {
-        counts.add(passes_random(alloc, number)?);
+        let length = LENGTHS[(number % 7) as usize];
+        let message = message_of(number);
+        let plan = Plan::Random(number, (length as u32).saturating_add(4));
+        counts.add(tries(alloc, &message[..length.min(MOST_BYTES)], plan)?);
     }
     Ok(counts)
 }

@@ -2,7 +2,7 @@
 
 ghost use Rattle.std.specs.Prelude.{◌≡◌, vec_len};
 
-use crate::vector::{Call, Vector};
+use crate::vector::{Call, Calls, Vector, word};
 use std::alloc::{AllocError, Global};
 use vip_cpu::Bus;
 
@@ -18,7 +18,7 @@ pub struct TestBus {
     flags: [bool; 4],
     /// The byte that an INP takes.
     taken: u8,
-    calls: Vec<Call>,
+    calls: Calls,
     ghost full: { vec_len bytes ≡ 65536 },
 }
 
@@ -32,13 +32,8 @@ impl TestBus {
             is_board: false,
             flags: [false; 4],
             taken: 0,
-            calls: Vec::new(alloc),
+            calls: Calls::NONE,
         })
-    }
-
-    /// Every address gets this byte.
-    pub fn fill(&mut self, byte: u8) {
-        self.bytes.fill(byte);
     }
 
     /// Puts bytes from an address on.
@@ -52,18 +47,18 @@ impl TestBus {
 
     /// Memory, flags and ports as a vector has them, and no calls yet.
     pub fn prepare(&mut self, vector: &Vector) {
-        self.fill(0);
+        self.bytes.fill(0);
         self.is_board = vector.kind.is_board;
         if self.is_board {
             self.bytes[0x1000..0x8000].fill(0xFF);
             self.bytes[0x8800..SIZE].fill(0xFF);
         }
-        for &[high, low, byte] in vector.memory.iter() {
-            self.bytes[high as usize * 256 + low as usize] = byte;
+        for &[high, low, byte] in vector.memory.as_slice().iter() {
+            self.bytes[word(high, low) as usize] = byte;
         }
         self.flags = vector.flags;
         self.taken = vector.taken;
-        self.calls.clear();
+        self.calls = Calls::NONE;
     }
 
     /// Each flag becomes the other value.
@@ -88,7 +83,7 @@ impl TestBus {
     fn note(&mut self, call: Call)
         ensures { Keeps self.old self.new }
     {
-        let _ = self.calls.push(call);
+        self.calls.push(call);
     }
 }
 
@@ -118,15 +113,15 @@ impl Bus for TestBus {
 
     fn write(&mut self, address: u16, value: u8) {
         self.store(address, value);
-        self.note(Call::Write(address, value));
+        self.note(Call::write(address, value));
     }
 
     fn out(&mut self, port: u8, value: u8) {
-        self.note(Call::Out(port, value));
+        self.note(Call::at_port(port, value));
     }
 
     fn inp(&mut self, port: u8) -> u8 {
-        self.note(Call::Inp(port));
+        self.note(Call::at_port(port + 8, 0));
         self.taken
     }
 

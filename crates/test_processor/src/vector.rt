@@ -2,37 +2,16 @@
 
 ghost use Rattle.std.specs.Prelude.{◌<◌};
 
-use hex::{FromHex, FromHexError};
-use std::alloc::{AllocError, AllocFailed, Global};
-use thiserror::Error;
+use anyhow::Context;
+use hex::FromHex;
+use std::alloc::Global;
 use vip_cpu::{Cpu, Parts};
 
-/// Why a line gave no vector.
-#[derive(Clone, Copy, Debug, Error)]
-pub enum VectorFault {
-    #[error("not a vector")]
-    NotAVector,
-    #[error("no memory")]
-    NoMemory,
-}
+/// The most groups of three bytes in a field of a vector.
+const MOST: usize = 16;
 
-impl From<FromHexError> for VectorFault {
-    fn from(_: FromHexError) -> VectorFault {
-        VectorFault::NotAVector
-    }
-}
-
-impl From<AllocError> for VectorFault {
-    fn from(_: AllocError) -> VectorFault {
-        VectorFault::NoMemory
-    }
-}
-
-impl<T: Drop> From<AllocFailed<T>> for VectorFault {
-    fn from(_: AllocFailed<T>) -> VectorFault {
-        VectorFault::NoMemory
-    }
-}
+/// Room for the calls of the longest vector, and for one more.
+const MOST_CALLS: usize = MOST + 2;
 
 /// The registers of a processor at a boundary.
 #[derive(Clone, Copy, PartialEq, Eq)]
@@ -48,10 +27,27 @@ pub struct State {
 
 /// A call of a processor that changes its bus.
 #[derive(Clone, Copy, PartialEq, Eq)]
-pub enum Call {
-    Write(u16, u8),
-    Out(u8, u8),
-    Inp(u8),
+pub struct Call {
+    /// 1 to 7 for OUT, 9 to F for INP, and 0 for a write to memory.
+    n: u8,
+    /// That of a write, and else 0.
+    address: u16,
+    /// The byte that is written or sent, and 00 for INP.
+    byte: u8,
+}
+
+/// Calls in order.
+#[derive(Clone, Copy)]
+pub struct Calls {
+    calls: [Call; MOST_CALLS],
+    count: usize,
+}
+
+/// Groups of three bytes: an address and the byte there, or a register's name and what it holds.
+#[derive(Clone, Copy)]
+pub struct Triples {
+    triples: [[u8; 3]; MOST],
+    count: usize,
 }
 
 /// What a vector is of.
@@ -76,7 +72,7 @@ pub struct Signals {
     pub dma_cycles: u16,
 }
 
-#[derive(Drop)]
+#[derive(Clone, Copy)]
 pub struct Vector {
     pub kind: Kind,
     pub before: State,
@@ -86,9 +82,9 @@ pub struct Vector {
     /// The byte that an INP takes.
     pub taken: u8,
     /// The two bytes of an address and the byte there.
-    pub memory: Vec<[u8; 3]>,
+    pub memory: Triples,
     /// What the instruction does on the bus, the port first.
-    pub calls: Vec<Call>,
+    pub calls: Calls,
     pub signals: Signals,
     /// All machine cycles, those of idling too.
     pub cycles: u16,
@@ -98,9 +94,9 @@ impl Kind {
     /// The kind of a letter.
     fn of(letter: &str) -> Kind {
         Kind {
-            is_board: letter != "f",
-            has_display: letter == "s" || letter == "m",
-            has_instruction: letter != "m",
+            is_board: !letter.starts_with('f'),
+            has_display: letter.starts_with('s') || letter.starts_with('m'),
+            has_instruction: !letter.starts_with('m'),
         }
     }
 }
@@ -163,14 +159,14 @@ impl State {
         }
     }
 
-    fn read(registers: &str, others: &str) -> Result<State, VectorFault> {
-        let bytes = <[u8; 32]>::from_hex(registers)?;
-        let [d, t, xp, bits] = <[u8; 4]>::from_hex(others)?;
+    fn read(registers: &str, others: &str) -> Option<State> {
+        let bytes = <[u8; 32]>::from_hex(registers).ok()?;
+        let [d, t, xp, bits] = <[u8; 4]>::from_hex(others).ok()?;
         let mut r = [0; 16];
         for n in 0..16 {
             r[n] = word(bytes[2 * n], bytes[2 * n + 1]);
         }
-        Ok(State { r, d, t, xp, bits })
+        Some(State { r, d, t, xp, bits })
     }
 
     /// Puts a number into the register of this name, as in the seventh field of a vector. False where there is no such name.
@@ -187,57 +183,91 @@ impl State {
     }
 }
 
-fn word(high: u8, low: u8) -> u16 {
+impl Call {
+    pub fn write(address: u16, byte: u8) -> Call {
+        Call {
+            n: 0,
+            address,
+            byte,
+        }
+    }
+
+    pub fn at_port(n: u8, byte: u8) -> Call {
+        Call {
+            n,
+            address: 0,
+            byte,
+        }
+    }
+}
+
+impl Calls {
+    pub const NONE: Calls = Calls {
+        calls: [Call {
+            n: 0,
+            address: 0,
+            byte: 0,
+        }; MOST_CALLS],
+        count: 0,
+    };
+
+    /// Adds a call behind the others, as far as there is room.
+    pub fn push(&mut self, call: Call) {
+        if let Some(place) = self.calls.get_mut(self.count) {
+            *place = call;
+            self.count = self.count.saturating_add(1);
+        }
+    }
+
+    pub fn as_slice(&self) -> &[Call] {
+        &self.calls[..self.count.min(MOST_CALLS)]
+    }
+
+    /// The writes to memory, after the call at a port if there is one.
+    fn read(writes: &str, port: &str) -> Option<Calls> {
+        let mut calls = Calls::NONE;
+        if port != "-" {
+            let [n, byte] = <[u8; 2]>::from_hex(port).ok()?;
+            if n % 8 == 0 || n > 15 {
+                return None;
+            }
+            calls.push(Call::at_port(n, byte));
+        }
+        for &[high, low, byte] in Triples::read(writes)?.as_slice().iter() {
+            calls.push(Call::write(word(high, low), byte));
+        }
+        Some(calls)
+    }
+}
+
+impl Triples {
+    /// Those of a field, which has no separators; `-` is the empty list.
+    fn read(field: &str) -> Option<Triples> {
+        let digits = if field == "-" { "" } else { field };
+        let count = digits.len() / 6;
+        let mut triples = [[0; 3]; MOST];
+        hex::decode_to_slice(digits, triples.as_flattened_mut().get_mut(..3 * count)?).ok()?;
+        Some(Triples { triples, count })
+    }
+
+    pub fn as_slice(&self) -> &[[u8; 3]] {
+        &self.triples[..self.count.min(MOST)]
+    }
+}
+
+pub fn word(high: u8, low: u8) -> u16 {
     high as u16 * 256 + low as u16
 }
 
-/// A list of three bytes each, without separators; `-` is the empty list.
-fn read_list(alloc: Global, text: &str) -> Result<Vec<[u8; 3]>, VectorFault> {
-    let mut list = Vec::new(alloc);
-    if text == "-" {
-        return Ok(list);
-    }
-    for digits in text.as_bytes().chunks(6) {
-        let bytes = <[u8; 3]>::from_hex(digits)?;
-        list.push(bytes)?;
-    }
-    Ok(list)
-}
-
-/// The call at a port: N, 1 to 7 for OUT and 9 to F for INP, and the byte sent; `-` is none.
-fn read_port(text: &str) -> Result<Option<Call>, VectorFault> {
-    if text == "-" {
-        return Ok(None);
-    }
-    let [n, byte] = <[u8; 2]>::from_hex(text)?;
-    match n {
-        1..=7 => Ok(Some(Call::Out(n, byte))),
-        9..=15 => Ok(Some(Call::Inp(n - 8))),
-        _ => Err(VectorFault::NotAVector),
-    }
-}
-
-/// The writes to memory, after the call at a port if there is one.
-fn read_calls(alloc: Global, writes: &str, port: &str) -> Result<Vec<Call>, VectorFault> {
-    let mut calls = Vec::new(alloc);
-    if let Some(call) = read_port(port)? {
-        calls.push(call)?;
-    }
-    for &[high, low, byte] in read_list(alloc, writes)?.iter() {
-        calls.push(Call::Write(word(high, low), byte))?;
-    }
-    Ok(calls)
-}
-
 /// The state after some changes.
-fn read_changes(alloc: Global, before: &State, text: &str) -> Result<State, VectorFault> {
+fn read_changes(before: &State, text: &str) -> Option<State> {
     let mut after = *before;
-    for &[name, high, low] in read_list(alloc, text)?.iter() {
+    for &[name, high, low] in Triples::read(text)?.as_slice().iter() {
         if !after.change(name, high, low) {
-            return Err(VectorFault::NotAVector);
+            return None;
         }
     }
-    Ok(after)
+    Some(after)
 }
 
 /// The flags EF1 to EF4 of the bits 0 to 3.
@@ -261,22 +291,15 @@ fn dma_cycles_of(moves: &str) -> u16 {
     count
 }
 
-fn number_of(text: &str) -> Result<u16, VectorFault> {
-    match text.parse::<u16>() {
-        Ok(number) => Ok(number),
-        Err(_) => Err(VectorFault::NotAVector),
-    }
-}
-
 impl Vector {
     /// The vector of a line.
-    pub fn read(alloc: Global, line: &str) -> Result<Vector, VectorFault> {
+    pub fn read(alloc: Global, line: &str) -> anyhow::Result<Vector> {
         let fields: Vec<&str> = line.split_whitespace().collect(alloc)?;
-        Vector::of(alloc, &fields)
+        Vector::of(&fields).context("not a vector")
     }
 
     /// The vector of the fields of a line.
-    fn of(alloc: Global, fields: &[&str]) -> Result<Vector, VectorFault> {
+    fn of(fields: &[&str]) -> Option<Vector> {
         let &[
             _,
             kind,
@@ -291,24 +314,20 @@ impl Vector {
             moves,
         ] = fields
         else {
-            return Err(VectorFault::NotAVector);
+            return None;
         };
         let before = State::read(registers, others)?;
-        let after = read_changes(alloc, &before, changes)?;
-        let [flags, taken] = <[u8; 2]>::from_hex(inputs)?;
-        let cycles = number_of(cycles)?;
-        let memory = read_list(alloc, memory)?;
-        let calls = read_calls(alloc, writes, port)?;
-        Ok(Vector {
+        let [flags, taken] = <[u8; 2]>::from_hex(inputs).ok()?;
+        Some(Vector {
             kind: Kind::of(kind),
             before,
-            after,
+            after: read_changes(&before, changes)?,
             flags: flags_of(flags),
             taken,
-            memory,
-            calls,
+            memory: Triples::read(memory)?,
+            calls: Calls::read(writes, port)?,
             signals: Signals::of(moves),
-            cycles,
+            cycles: cycles.parse::<u16>().ok()?,
         })
     }
 }
