@@ -61,12 +61,12 @@ fn is_right(alloc: Global, text: &[u8], due: Due) -> bool {
 }
 
 /// Compares each source with the ROM: how many come to what is due, and how many there are.
-pub fn compare_sources(alloc: Global) -> (usize, usize) {
-    let mut right = 0usize;
+pub fn compare_sources(alloc: Global) -> [u64; 2] {
+    let mut right = 0u64;
     for (text, due) in ROWS {
         if is_right(alloc, text.as_bytes(), *due) {
             right = right.saturating_add(1);
         }
     }
-    (right, ROWS.len())
+    [right, ROWS.len() as u64]
 }

@@ -1,25 +1,21 @@
 //! Runs that are cut: random games under random key scripts, up to a limit, saved there, and gone on with up to another one. What goes on has to be the
 //! rest of the trace in one go.
 
-ghost use Rattle.std.specs.Prelude.{◌≡◌, ◌≤◌, IfOk, None};
-ghost use Rattle.vip_show.specs.Answers.{IsFresh};
+ghost use Rattle.std.specs.Prelude.{◌≤◌};
 
 use crate::edition::EDITIONS;
 use crate::numbers::Numbers;
-use crate::runs::{RunFault, script_of};
+use crate::runs::script_of;
 use chip8_lang::Edition;
 use std::alloc::{AllocError, Global};
 use vip_keypad::Script;
-use vip_outside::{Failed, MemSink};
+use vip_outside::MemSink;
 use vip_relation::Run;
 use vip_show::{show_saved, show_trace};
 use vip_text::{RunEnd, TIMED};
 
 /// How many games are cut, each in both editions.
 const GAMES: u32 = 200;
-
-/// The opcodes of a game, which fit into the game memory of both editions.
-const OPCODES: u16 = 1_488;
 
 /// The most events of a key script, and the most cycles between two of them.
 const MOST_EVENTS: u16 = 24;
@@ -35,14 +31,14 @@ const ROOM: usize = 262_144;
 /// What was seen of the runs.
 #[derive(Clone, Copy)]
 pub struct Seen {
-    pub cut: u32,
+    pub cut: u64,
     /// Those without a dispatch point up to the first limit.
-    pub unsaved: u32,
+    pub unsaved: u64,
     /// The dispatch points and the stops behind what was saved.
     pub records: u64,
-    pub stops: u32,
+    pub stops: u64,
     /// Those that aren't the run in one go.
-    pub wrong: u32,
+    pub wrong: u64,
 }
 
 /// A game, a key script and two limits.
@@ -55,29 +51,16 @@ struct Cut<'a> {
     last: u64,
 }
 
-/// What went out, with the end of the run.
+/// What a cut run writes: the trace up to the first limit, the file, the trace of what goes on from it, and the trace in one go.
 #[derive(Drop)]
-struct Written<E: Drop> {
-    out: MemSink,
-    end: Result<E, Failed>,
+struct Written {
+    early: MemSink,
+    file: MemSink,
+    late: MemSink,
+    whole: MemSink,
 }
 
 impl Numbers {
-    /// A game of opcodes most of which stop nothing, and some of which wait for a key. Its last opcode jumps to the first.
-    fn game(&mut self, alloc: Global) -> Result<Vec<u8>, AllocError> {
-        let mut game = Vec::new(alloc);
-        for _ in 1..OPCODES {
-            let opcode = match self.next() % 64 {
-                0 => 0xF00A + self.next() % 16 * 256,
-                1..=3 => self.opcode(false),
-                _ => self.opcode(true),
-            };
-            game.extend_from_slice(&opcode.to_be_bytes())?;
-        }
-        game.extend_from_slice(&[0x12, 0x00])?;
-        Ok(game)
-    }
-
     /// An event of a key script in a cycle.
     fn event(&mut self, alloc: Global, cycle: u32) -> Result<String, AllocError> {
         let turn = if self.next() % 2 == 0 { "down" } else { "up" };
@@ -96,12 +79,6 @@ impl Numbers {
         Ok(text)
     }
 
-    /// A key script.
-    fn script(&mut self, alloc: Global) -> Result<Script, RunFault> {
-        let text = self.events(alloc)?;
-        script_of(alloc, &text)
-    }
-
     /// A limit.
     fn limit(&mut self) -> u64
         ensures { result ≤ 120_000 }
@@ -110,130 +87,109 @@ impl Numbers {
     }
 }
 
-/// A machine that begins to run a game.
-fn start(alloc: Global, cut: &Cut<'_>) -> Result<Run, RunFault>
-    ensures { IfOk result (λ run. IsFresh run × (run.last ≡ None)) }
-{
-    match Run::start_as(alloc, cut.edition, cut.game, cut.script) {
-        Ok(run) => Ok(run),
-        Err(_) => Err(RunFault::NoMemory),
-    }
-}
-
-/// The trace of the run up to a limit.
-fn trace(alloc: Global, cut: &Cut<'_>, limit: u64) -> Result<Written<RunEnd>, RunFault>
+/// Writes the trace of the run up to a limit.
+fn trace(alloc: Global, cut: &Cut<'_>, limit: u64, out: &mut MemSink) -> anyhow::Result<RunEnd>
     requires { limit ≤ 120_000 }
 {
-    let mut out = MemSink::new(alloc, ROOM)?;
-    let mut run = start(alloc, cut)?;
-    let end = show_trace(&mut run, limit, TIMED, false, &mut out);
-    Ok(Written { out, end })
+    let mut run = Run::start_as(alloc, cut.edition, cut.game, cut.script)?;
+    Ok(show_trace(&mut run, limit, TIMED, false, out)?)
 }
 
-/// The file of the run at its last dispatch point up to the first limit.
-fn save(alloc: Global, cut: &Cut<'_>) -> Result<Written<Option<RunEnd>>, RunFault>
+/// Writes the file of the run at its last dispatch point up to the first limit.
+fn save(alloc: Global, cut: &Cut<'_>, out: &mut MemSink) -> anyhow::Result<Option<RunEnd>>
     requires { cut.now.first ≤ 120_000 }
 {
-    let mut out = MemSink::new(alloc, ROOM)?;
-    let mut run = start(alloc, cut)?;
-    let end = show_saved(&mut run, cut.first, &mut out);
-    Ok(Written { out, end })
+    let mut run = Run::start_as(alloc, cut.edition, cut.game, cut.script)?;
+    Ok(show_saved(&mut run, cut.first, out)?)
 }
 
-/// The records of what goes on from a file up to the last limit.
-fn resume(alloc: Global, cut: &Cut<'_>, file: &[u8]) -> Result<Written<RunEnd>, RunFault>
+/// Writes the records of what goes on from a file up to the last limit.
+fn resume(alloc: Global, cut: &Cut<'_>, file: &[u8], out: &mut MemSink) -> anyhow::Result<RunEnd>
     requires { cut.now.last ≤ 120_000 }
 {
-    let mut out = MemSink::new(alloc, ROOM)?;
-    let Ok(mut run) = Run::resume(alloc, file, cut.script) else {
-        return Err(RunFault::NotAState);
-    };
-    let end = show_trace(&mut run, cut.last, TIMED, false, &mut out);
-    Ok(Written { out, end })
+    let mut run = Run::resume(alloc, file, cut.script)?;
+    Ok(show_trace(&mut run, cut.last, TIMED, false, out)?)
 }
 
-/// Goes on from the file of a run up to its last limit. Answers whether that is the rest of the trace in one go, behind the early part.
-fn goes_on(
-    alloc: Global,
-    cut: &Cut<'_>,
-    file: &[u8],
-    early: &[u8],
-    seen: &mut Seen,
-) -> Result<bool, RunFault>
-    requires { cut.now.last ≤ 120_000 }
-{
-    let late = resume(alloc, cut, file)?;
-    let whole = trace(alloc, cut, cut.last)?;
-    seen.records = seen.records.saturating_add(u64::from(late.out.calls()));
-    if let Ok(RunEnd::AtStop(_)) = late.end {
-        seen.stops = seen.stops.saturating_add(1);
+impl Written {
+    /// Nothing yet.
+    fn new(alloc: Global) -> Result<Written, AllocError> {
+        let early = MemSink::new(alloc, ROOM)?;
+        let file = MemSink::new(alloc, ROOM)?;
+        let late = MemSink::new(alloc, ROOM)?;
+        let whole = MemSink::new(alloc, ROOM)?;
+        Ok(Written {
+            early,
+            file,
+            late,
+            whole,
+        })
     }
-    let rest = whole.out.bytes().strip_prefix(early);
-    Ok(whole.end == late.end && rest == Some(late.out.bytes()))
+
+    /// Cuts a run. Answers whether its parts are the whole: the file was written at once, the run ended there as its trace did, and what goes on from
+    /// the file is the rest of the trace in one go. Where there is nothing to save, no file is written.
+    fn compare(&mut self, alloc: Global, cut: &Cut<'_>, seen: &mut Seen) -> anyhow::Result<bool>
+        requires first { cut.now.first ≤ 120_000 }
+        requires last { cut.now.last ≤ 120_000 }
+    {
+        let early = trace(alloc, cut, cut.first, &mut self.early)?;
+        let saved = save(alloc, cut, &mut self.file)?;
+        if self.early.calls() == 0 {
+            seen.unsaved = seen.unsaved.saturating_add(1);
+            return Ok(saved.is_none() && self.file.calls() == 0);
+        }
+        let goes_on = self.goes_on(alloc, cut, seen)?;
+        Ok(goes_on && saved == Some(early) && self.file.calls() == 1)
+    }
+
+    // Goes on from the file of a run up to its last limit. Answers whether that is the rest of the trace in one go.
+    fn goes_on(&mut self, alloc: Global, cut: &Cut<'_>, seen: &mut Seen) -> anyhow::Result<bool>
+        requires { cut.now.last ≤ 120_000 }
+    {
+        let late = resume(alloc, cut, self.file.bytes(), &mut self.late)?;
+        let whole = trace(alloc, cut, cut.last, &mut self.whole)?;
+        seen.records = seen.records.saturating_add(u64::from(self.late.calls()));
+        if let RunEnd::AtStop(_) = late {
+            seen.stops = seen.stops.saturating_add(1);
+        }
+        let rest = self.whole.bytes().strip_prefix(self.early.bytes());
+        Ok(whole == late && rest == Some(self.late.bytes()))
+    }
 }
 
-/// No file was written, since there is nothing to save.
-fn is_unsaved(saved: &Written<Option<RunEnd>>) -> bool {
-    saved.end == Ok(None) && saved.out.calls() == 0
-}
-
-/// A file was written at once, and the run ended as its trace did.
-fn is_saved(early: &Written<RunEnd>, saved: &Written<Option<RunEnd>>) -> bool {
-    saved.end == early.end.map(Some) && saved.out.calls() == 1
-}
-
-/// Cuts a run, and compares its parts with the whole.
-fn compare(alloc: Global, cut: &Cut<'_>, seen: &mut Seen) -> Result<bool, RunFault>
+/// Cuts a run. Answers whether its parts are the whole.
+fn is_whole(alloc: Global, cut: &Cut<'_>, seen: &mut Seen) -> anyhow::Result<bool>
     requires first { cut.now.first ≤ 120_000 }
     requires last { cut.now.last ≤ 120_000 }
 {
-    let early = trace(alloc, cut, cut.first)?;
-    let saved = save(alloc, cut)?;
-    if early.out.calls() == 0 {
-        seen.unsaved = seen.unsaved.saturating_add(1);
-        return Ok(is_unsaved(&saved));
-    }
-    let goes_on = goes_on(alloc, cut, saved.out.bytes(), early.out.bytes(), seen)?;
-    Ok(is_saved(&early, &saved) && goes_on)
-}
-
-/// Cuts the run of a game in an edition.
-fn cut_in(
-    alloc: Global,
-    numbers: &mut Numbers,
-    edition: Edition,
-    game: &[u8],
-    script: &Script,
-    seen: &mut Seen,
-) -> Result<(), RunFault> {
-    let one = numbers.limit();
-    let other = numbers.limit();
-    let cut = Cut {
-        edition,
-        game,
-        script,
-        first: one.min(other),
-        last: one.max(other),
-    };
-    seen.cut = seen.cut.saturating_add(1);
-    if !compare(alloc, &cut, seen)? {
-        seen.wrong = seen.wrong.saturating_add(1);
-    }
-    Ok(())
+    let mut written = Written::new(alloc)?;
+    written.compare(alloc, cut, seen)
 }
 
 /// Cuts the runs of a random game in both editions.
-fn cut_game(alloc: Global, numbers: &mut Numbers, seen: &mut Seen) -> Result<(), RunFault> {
-    let game = numbers.game(alloc)?;
-    let script = numbers.script(alloc)?;
+fn cut_game(alloc: Global, numbers: &mut Numbers, seen: &mut Seen) -> anyhow::Result<()> {
+    let game = numbers.game();
+    let script = script_of(alloc, &numbers.events(alloc)?)?;
     for edition in EDITIONS {
-        cut_in(alloc, numbers, edition, &game, &script, seen)?;
+        let one = numbers.limit();
+        let other = numbers.limit();
+        let cut = Cut {
+            edition,
+            game: game.bytes(),
+            script: &script,
+            first: one.min(other),
+            last: one.max(other),
+        };
+        seen.cut = seen.cut.saturating_add(1);
+        if !is_whole(alloc, &cut, seen)? {
+            seen.wrong = seen.wrong.saturating_add(1);
+        }
     }
     Ok(())
 }
 
 /// Cuts the runs of random games.
-pub fn cut_runs(alloc: Global) -> Result<Seen, RunFault> {
+pub fn cut_runs(alloc: Global) -> anyhow::Result<Seen> {
     let mut numbers = Numbers::new(2);
     let mut seen = Seen {
         cut: 0,

@@ -59,11 +59,13 @@ pub fn name(edition: Edition) -> &'static str {
 
 /// Copies the pages of RAM from one on, as many as there is room for.
 pub fn copy_pages(memory: &Memory, first: u8, into: &mut [u8]) {
-    for (bytes, number) in into.chunks_mut(256).zip(first..=0x0F) {
+    let mut number = first;
+    for bytes in into.chunks_mut(256) {
         if let Some(page) = memory.page(number)
             && page.len() == bytes.len()
         {
             bytes.copy_from_slice(page);
         }
+        number = number.saturating_add(1);
     }
 }

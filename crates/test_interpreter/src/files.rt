@@ -3,15 +3,17 @@
 use crate::edition::{EDITIONS, GAME, Places};
 use crate::language::{Language, State};
 use crate::numbers::Numbers;
-use crate::runs::RunFault;
 use chip8_image::{ENTRY, TALL_ENTRY};
 use chip8_lang::{Edition, StopRecord};
-use std::alloc::{AllocError, Global};
+use std::alloc::Global;
 use vip_keypad::Script;
 use vip_relation::{Met, Run};
 
 /// How many files are made.
 const FILES: u32 = 500;
+
+/// The bytes of a file, of which the last are those of RAM.
+const FILE: usize = 51 + 0x1000;
 
 /// The limit up to which each goes on, in machine cycles.
 const LIMIT: u64 = 200_000;
@@ -26,12 +28,12 @@ const WINDOW_END: u64 = 2_912;
 /// What was seen of the files.
 #[derive(Clone, Copy)]
 pub struct Seen {
-    pub files: u32,
-    pub refused: u32,
-    pub steps: u32,
-    pub stops: u32,
+    pub files: u64,
+    pub refused: u64,
+    pub steps: u64,
+    pub stops: u64,
     /// Steps and stops that aren't those of the language.
-    pub wrong: u32,
+    pub wrong: u64,
 }
 
 impl Numbers {
@@ -87,25 +89,47 @@ impl Numbers {
     }
 
     /// A file that is accepted.
-    fn file(&mut self, alloc: Global, edition: Edition) -> Result<Vec<u8>, AllocError> {
-        let number = u8::from(edition == Edition::Tall);
-        let mut file = Vec::from_slice(alloc, &[0x56, 0x49, 0x50, 0x53, 0x01, number])?;
-        file.extend_from_slice(&self.cycle().to_be_bytes())?;
+    fn file(&mut self, edition: Edition) -> File {
+        let mut file = File {
+            bytes: [0; FILE],
+            count: 0,
+        };
+        file.push(b"VIPS\x01");
+        file.push(&[u8::from(edition == Edition::Tall)]);
+        file.push(&self.cycle().to_be_bytes());
         for register in 0..16u8 {
-            file.extend_from_slice(&self.register(register, edition).to_be_bytes())?;
+            file.push(&self.register(register, edition).to_be_bytes());
         }
-        file.extend_from_slice(&self.flags())?;
-        self.push_ram(&mut file, &Places::of(edition))?;
-        Ok(file)
+        file.push(&self.flags());
+        self.push_ram(&mut file, &Places::of(edition));
+        file
     }
 
     /// Puts the bytes of RAM behind others.
-    fn push_ram(&mut self, file: &mut Vec<u8>, places: &Places) -> Result<(), AllocError> {
+    fn push_ram(&mut self, file: &mut File, places: &Places) {
         let kind = self.next() % 4;
-        for address in (0..0x1000u16).step_by(2) {
-            file.extend_from_slice(&self.word(kind, address, places).to_be_bytes())?;
+        for place in 0..0x800u16 {
+            file.push(&self.word(kind, 2 * place, places).to_be_bytes());
         }
-        Ok(())
+    }
+}
+
+/// The bytes of a file so far.
+#[derive(Clone, Copy)]
+struct File {
+    bytes: [u8; FILE],
+    count: usize,
+}
+
+impl File {
+    /// Puts bytes behind the others.
+    fn push(&mut self, bytes: &[u8]) {
+        for byte in bytes.iter() {
+            if let Some(place) = self.bytes.get_mut(self.count) {
+                *place = *byte;
+                self.count = self.count.saturating_add(1);
+            }
+        }
     }
 }
 
@@ -115,7 +139,7 @@ fn interrupts_before(cycle: u64) -> u64 {
 }
 
 /// Makes random files, and goes on from each.
-pub fn run_files(alloc: Global) -> Result<Seen, RunFault> {
+pub fn run_files(alloc: Global) -> Seen {
     let keys = Script::empty(alloc);
     let mut numbers = Numbers::new(1);
     let mut seen = Seen {
@@ -127,14 +151,14 @@ pub fn run_files(alloc: Global) -> Result<Seen, RunFault> {
     };
     for number in 0..FILES {
         let edition = EDITIONS[usize::from(number % 2 == 1)];
-        let file = numbers.file(alloc, edition)?;
+        let file = numbers.file(edition);
         seen.files = seen.files.saturating_add(1);
-        match Run::resume(alloc, &file, &keys) {
+        match Run::resume(alloc, &file.bytes, &keys) {
             Ok(mut run) => go_on(&mut run, &mut seen),
             Err(_) => seen.refused = seen.refused.saturating_add(1),
         }
     }
-    Ok(seen)
+    seen
 }
 
 /// Goes on from a file up to the limit, and compares each point with the step of the one before it.

@@ -37,8 +37,8 @@ impl State {
     pub fn of(view: &StateView) -> State {
         let v = view.v;
         let mut stack = [0; MOST_ADDRESSES];
-        for (place, address) in stack.iter_mut().zip(view.stack.iter()) {
-            *place = *address;
+        for place in 0..MOST_ADDRESSES {
+            stack[place] = view.stack.get(place).copied().unwrap_or(0);
         }
         State {
             v,
@@ -280,8 +280,8 @@ impl Language {
     // FX65
     fn fetch(&self, to: &mut State, count: u16) -> Result<(), Stop> {
         self.can_read(to.i, count)?;
-        for (variable, k) in to.v.iter_mut().zip(0..count) {
-            *variable = self.byte(to.i.wrapping_add(k));
+        for k in 0..count.min(16) {
+            to.v[usize::from(k)] = self.byte(to.i.wrapping_add(k));
         }
         to.i = to.i.wrapping_add(count);
         Ok(())

@@ -19,9 +19,9 @@ mod comparison;
 mod console;
 mod costs;
 mod cuts;
-mod demo;
 mod edition;
 mod files;
+mod game;
 mod language;
 mod numbers;
 mod parts;
@@ -40,16 +40,14 @@ use crate::parts::write_parts;
 use crate::report::{
     write_compared, write_costs, write_cuts, write_files, write_form, write_frames, write_wrong,
 };
-use crate::runs::{run_demos, run_instructions, script_of};
+use crate::runs::{run_demos, run_instructions};
 use crate::source::form_of;
 use crate::starts::write_starts;
 use crate::watch::{KeyTests, Watch};
-use crate::wrong::run_wrong;
+use crate::wrong::Wrong;
+use anyhow::Context;
 use chip8_lang::Edition;
 use std::fs;
-
-/// The key script under which instructions are measured.
-const MEASURED_KEYS: &str = "0 down F\n30000 up F\n";
 
 /// Looks at an edition's source, and writes its form. Answers where it tests keys.
 fn look_at_source(rt: &HostRuntime, edition: Edition) -> anyhow::Result<KeyTests> {
@@ -65,11 +63,10 @@ fn measure(
     text: &str,
     key_tests: KeyTests,
 ) -> anyhow::Result<()> {
-    let keys = script_of(rt.alloc(), MEASURED_KEYS)?;
     let mut watch = Watch::new(key_tests);
     run_demos(rt.alloc(), edition, &mut watch)?;
     write_frames(rt, edition, "random games", &watch)?;
-    run_instructions(rt.alloc(), edition, text, &keys, &mut watch)?;
+    run_instructions(rt.alloc(), edition, text, &mut watch)?;
     write_frames(rt, edition, "these and each instruction", &watch)?;
     write_costs(rt, &watch.costs)
 }
@@ -83,38 +80,32 @@ fn run_wrong_ones(
 ) -> anyhow::Result<()> {
     println!(rt; "{}, wrong interpreters:", name(edition))?;
     for line in text.lines() {
-        if line.starts_with('#') {
-            continue;
+        if !line.starts_with('#') {
+            let wrong = Wrong::read(edition, line).context("not a wrong interpreter")?;
+            let mut watch = Watch::new(key_tests);
+            wrong.run(rt.alloc(), edition, &mut watch)?;
+            write_wrong(rt, wrong.name, &watch)?;
         }
-        let mut watch = Watch::new(key_tests);
-        let wrong = run_wrong(rt.alloc(), edition, line, &mut watch)?;
-        write_wrong(rt, wrong, &watch)?;
     }
     Ok(())
 }
 
-/// Looks at an edition, with the texts of what is measured and of what is wrong.
-fn run_edition(rt: &HostRuntime, edition: Edition, costs: &str, wrong: &str) -> anyhow::Result<()> {
-    let key_tests = look_at_source(rt, edition)?;
-    write_parts(rt, edition)?;
-    measure(rt, edition, costs, key_tests)?;
-    run_wrong_ones(rt, edition, wrong, key_tests)
-}
-
-/// Looks at both editions.
-fn run_editions(rt: &HostRuntime) -> anyhow::Result<()> {
-    let costs = fs::read_to_string(rt, "costs.txt")?;
-    let wrong = fs::read_to_string(rt, "wrong.txt")?;
+/// Looks at both editions, with the texts of what is measured and of what is wrong.
+fn run_editions(rt: &HostRuntime, costs: &str, wrong: &str) -> anyhow::Result<()> {
     for edition in EDITIONS {
-        run_edition(rt, edition, &costs, &wrong)?;
+        let key_tests = look_at_source(rt, edition)?;
+        write_parts(rt, edition)?;
+        measure(rt, edition, costs, key_tests)?;
+        run_wrong_ones(rt, edition, wrong, key_tests)?;
     }
     Ok(())
 }
 
 fn main(rt: HostRuntime) -> anyhow::Result<()> {
     write_compared(&rt, compare_sources(rt.alloc()))?;
-    run_editions(&rt)?;
-    write_files(&rt, &run_files(rt.alloc())?)?;
+    let costs = fs::read_to_string(&rt, "costs.txt")?;
+    run_editions(&rt, &costs, &fs::read_to_string(&rt, "wrong.txt")?)?;
+    write_files(&rt, &run_files(rt.alloc()))?;
     write_cuts(&rt, &cut_runs(rt.alloc())?)?;
     write_starts(&rt)
 }

@@ -5,6 +5,7 @@ use crate::edition::name;
 use crate::runs::script_of;
 use chip8_image::{Part, Places, part};
 use chip8_lang::Edition;
+use std::alloc::Global;
 
 /// A cycle before which the game has come to its stop.
 const LIMIT: u64 = 20_000;
@@ -85,13 +86,21 @@ fn wrong_bytes(console: &Console, edition: Edition) -> u32 {
     wrong
 }
 
-/// Runs the game on an edition's ROM, and writes which parts it passed and what was wrong at its stop.
-pub fn write_parts(rt: &HostRuntime, edition: Edition) -> anyhow::Result<()> {
-    let keys = script_of(rt.alloc(), KEYS)?;
-    let mut console = Console::start(rt.alloc(), edition, &GAME, &keys)?;
+/// What came of the game: how many parts it passed, whether it stopped, and how many bytes aren't as they are due.
+type Came = (u32, bool, u32);
+
+/// Runs the game on an edition's ROM.
+fn run(alloc: Global, edition: Edition) -> anyhow::Result<Came> {
+    let keys = script_of(alloc, KEYS)?;
+    let mut console = Console::start(alloc, edition, &GAME, &keys)?;
     let passed = parts_passed(&mut console).count_ones();
     let stopped = matches!(console.next(), Next::Stop);
-    let wrong = wrong_bytes(&console, edition);
+    Ok((passed, stopped, wrong_bytes(&console, edition)))
+}
+
+/// Runs the game on an edition's ROM, and writes which parts it passed and what was wrong at its stop.
+pub fn write_parts(rt: &HostRuntime, edition: Edition) -> anyhow::Result<()> {
+    let (passed, stopped, wrong) = run(rt.alloc(), edition)?;
     println!(rt;
         "{}, a game through each part: {passed} of 6 passed, stopped {stopped}, {wrong} of 10 bytes not as due",
         name(edition)

@@ -1,15 +1,16 @@
 //! The runs that are measured: random games, and each instruction at every place of the frame.
 
 use crate::console::Console;
-use crate::demo::demo;
 use crate::edition::{GAME, Places};
+use crate::game::{Game, demo};
 use crate::watch::Watch;
+use anyhow::Context;
 use chip8_lang::Edition;
-use hex::{FromHex, FromHexError};
 use std::alloc::{AllocError, Global};
-use std::str::SplitWhitespace;
-use thiserror::Error;
-use vip_keypad::{Script, read_script};
+use vip_keypad::{Script, ScriptCause, ScriptFault, read_script};
+
+/// The key script under which instructions are measured.
+const MEASURED_KEYS: &str = "0 down F\n30000 up F\n";
 
 /// The cycles of a run that measures an instruction.
 const MEASURED_CYCLES: u64 = 45_000;
@@ -32,44 +33,19 @@ const MOST_ADDS: usize = 44;
 /// The most bytes of a key script.
 const MOST_SCRIPT: usize = 1_024;
 
-/// Why something could not be measured.
-#[derive(Clone, Copy, Debug, Error)]
-pub enum RunFault {
-    #[error("not an instruction")]
-    NotAnInstruction,
-    #[error("not a key script")]
-    NotAScript,
-    #[error("not a machine state")]
-    NotAState,
-    #[error("no memory")]
-    NoMemory,
-}
-
-impl From<AllocError> for RunFault {
-    fn from(_: AllocError) -> RunFault {
-        RunFault::NoMemory
-    }
-}
-
-impl From<FromHexError> for RunFault {
-    fn from(_: FromHexError) -> RunFault {
-        RunFault::NotAnInstruction
-    }
-}
-
 /// The key script of a text.
-pub fn script_of(alloc: Global, text: &str) -> Result<Script, RunFault> {
+pub fn script_of(alloc: Global, text: &str) -> Result<Script, ScriptFault> {
     if text.len() > MOST_SCRIPT {
-        return Err(RunFault::NotAScript);
+        return Err(ScriptFault::Fault {
+            line: 1,
+            cause: ScriptCause::TooMany,
+        });
     }
-    match read_script(alloc, text.as_bytes()) {
-        Ok(script) => Ok(script),
-        Err(_) => Err(RunFault::NotAScript),
-    }
+    read_script(alloc, text.as_bytes())
 }
 
 /// Runs random games, each from reset on, until they have enough dispatch points.
-pub fn run_demos(alloc: Global, edition: Edition, watch: &mut Watch) -> Result<(), RunFault> {
+pub fn run_demos(alloc: Global, edition: Edition, watch: &mut Watch) -> Result<(), AllocError> {
     let keys = Script::empty(alloc);
     let places = Places::of(edition);
     let opcodes = usize::from(places.game_end.saturating_sub(GAME) / 2);
@@ -78,8 +54,7 @@ pub fn run_demos(alloc: Global, edition: Edition, watch: &mut Watch) -> Result<(
         if watch.dispatches >= enough {
             break;
         }
-        let game = demo(alloc, number, opcodes)?;
-        watch.run_game(alloc, edition, &game, &keys, DEMO_CYCLES)?;
+        watch.run_game(alloc, edition, &demo(number, opcodes), &keys, DEMO_CYCLES)?;
     }
     Ok(())
 }
@@ -90,14 +65,13 @@ pub fn run_instructions(
     alloc: Global,
     edition: Edition,
     text: &str,
-    keys: &Script,
     watch: &mut Watch,
-) -> Result<(), RunFault> {
+) -> anyhow::Result<()> {
+    let keys = script_of(alloc, MEASURED_KEYS)?;
     for line in text.lines() {
-        if line.starts_with('#') {
-            continue;
+        if !line.starts_with('#') {
+            run_instruction(alloc, edition, line, &keys, watch)?;
         }
-        run_instruction(alloc, edition, line, keys, watch)?;
     }
     Ok(())
 }
@@ -109,7 +83,7 @@ fn run_instruction(
     line: &str,
     keys: &Script,
     watch: &mut Watch,
-) -> Result<(), RunFault> {
+) -> anyhow::Result<()> {
     let waits = line.contains("| D") || line.contains("| 00E0");
     for loads in 0..MOST_LOADS {
         let adds = if waits && loads < EARLY_LOADS {
@@ -118,7 +92,7 @@ fn run_instruction(
             1
         };
         for more in 0..adds {
-            let game = measured_game(alloc, line, loads, more)?;
+            let game = measured_game(line, loads, more).context("not an instruction")?;
             watch.run_game(alloc, edition, &game, keys, MEASURED_CYCLES)?;
         }
     }
@@ -126,25 +100,14 @@ fn run_instruction(
 }
 
 /// The game that measures an instruction: what prepares it, loads and additions, and its opcode.
-fn measured_game(
-    alloc: Global,
-    line: &str,
-    loads: usize,
-    adds: usize,
-) -> Result<Vec<u8>, RunFault> {
-    let Some((before, opcode)) = line.split_once('|') else {
-        return Err(RunFault::NotAnInstruction);
-    };
-    let mut game = Vec::new(alloc);
-    push_opcodes(&mut game, before.split_whitespace())?;
-    for _ in 0..loads {
-        game.extend_from_slice(&[0x6E, 0x00])?;
-    }
-    for _ in 0..adds {
-        game.extend_from_slice(&[0x7E, 0x00])?;
-    }
-    push_opcodes(&mut game, opcode.split_whitespace())?;
-    Ok(game)
+fn measured_game(line: &str, loads: usize, adds: usize) -> Option<Game> {
+    let (before, opcode) = line.split_once('|')?;
+    let mut game = Game::NONE;
+    game.push_words(before)?;
+    game.push_times(loads, 0x6E00);
+    game.push_times(adds, 0x7E00);
+    game.push_words(opcode)?;
+    Some(game)
 }
 
 impl Watch {
@@ -153,20 +116,12 @@ impl Watch {
         &mut self,
         alloc: Global,
         edition: Edition,
-        game: &[u8],
+        game: &Game,
         keys: &Script,
         limit: u64,
     ) -> Result<(), AllocError> {
-        let mut console = Console::start(alloc, edition, game, keys)?;
+        let mut console = Console::start(alloc, edition, game.bytes(), keys)?;
         self.run(&mut console, limit);
         Ok(())
     }
-}
-
-/// Puts the bytes of opcodes in hexadecimal behind others.
-pub fn push_opcodes(game: &mut Vec<u8>, words: SplitWhitespace<'_>) -> Result<(), RunFault> {
-    for word in words {
-        game.extend_from_slice(&<[u8; 2]>::from_hex(word)?)?;
-    }
-    Ok(())
 }

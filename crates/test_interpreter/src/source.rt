@@ -3,13 +3,13 @@
 ghost use Rattle.std.specs.Prelude.{◌≤◌, IfOk, vec_len};
 
 use crate::watch::KeyTests;
-use asm_core::{AsmFault, Assembly, assemble, next_line};
+use anyhow::Context;
+use asm_core::{Assembly, assemble, next_line};
 use asm_lex::{Isa, Symbols, Word, line};
 use chip8_image::{ENTRY, FETCH, HALT, Part, TALL_ENTRY, TALL_FETCH, TALL_HALT, part};
 use chip8_lang::Edition;
 use chip8_source::{source, tall_source};
 use std::alloc::{AllocError, Global};
-use thiserror::Error;
 
 /// The first address of the font, and the first one behind it.
 const FONT: u16 = 0x8700;
@@ -61,38 +61,21 @@ const HEADINGS: &[(&str, Part)] = &[
     ("; THE FONT, ", Part::Other),
 ];
 
-/// Why a source couldn't be looked at.
-#[derive(Clone, Copy, Debug, Error)]
-pub enum SourceFault {
-    #[error("{0}")]
-    Assembly(AsmFault),
-    #[error("no memory")]
-    NoMemory,
-    #[error("no label {0}")]
-    NoLabel(&'static str),
-}
-
-impl From<AllocError> for SourceFault {
-    fn from(_: AllocError) -> SourceFault {
-        SourceFault::NoMemory
-    }
-}
-
 /// What is found in a source.
 #[derive(Clone, Copy)]
 pub struct Form {
     /// Lines with an instruction.
-    pub instructions: u32,
+    pub instructions: u64,
     /// Lines with DB, DW or DS that give a byte outside the font and the dispatch table.
-    pub stray: u32,
+    pub stray: u64,
     /// Words of the dispatch table that are those of its routines.
-    pub routines: usize,
+    pub routines: u64,
     /// Shifts of a sprite's row that stand in line, one behind the other.
-    pub shifts: usize,
+    pub shifts: u64,
     /// Labels that have the addresses of `chip8_image`.
-    pub labels: usize,
+    pub labels: u64,
     /// Addresses whose byte isn't given by the text of the part that they belong to.
-    pub misplaced: u32,
+    pub misplaced: u64,
     /// Where keys are tested.
     pub key_tests: KeyTests,
 }
@@ -145,9 +128,9 @@ fn text_of(alloc: Global, edition: Edition) -> Result<Vec<u8>, AllocError>
 }
 
 /// What is found in the source of an edition.
-pub fn form_of(alloc: Global, edition: Edition) -> Result<Form, SourceFault> {
+pub fn form_of(alloc: Global, edition: Edition) -> anyhow::Result<Form> {
     let source = Source::new(alloc, edition)?;
-    source.form(alloc)
+    source.form(alloc).context("a label is missing")
 }
 
 /// A source and its assembly.
@@ -160,48 +143,39 @@ struct Source {
 
 impl Source {
     /// Those of an edition.
-    fn new(alloc: Global, edition: Edition) -> Result<Source, SourceFault> {
+    fn new(alloc: Global, edition: Edition) -> anyhow::Result<Source> {
         let text = text_of(alloc, edition)?;
-        match assemble(alloc, Isa::Cdp1802, &text) {
-            Ok(made) => Ok(Source {
-                edition,
-                text,
-                made,
-            }),
-            Err(fault) => Err(SourceFault::Assembly(fault)),
-        }
-    }
-
-    /// The value of a label.
-    fn label(&self, name: &'static str) -> Result<u16, SourceFault> {
-        self.made.symbol(name).ok_or(SourceFault::NoLabel(name))
-    }
-
-    fn key_tests(&self) -> Result<KeyTests, SourceFault> {
-        Ok(KeyTests {
-            first: self.label("key_test")?,
-            last: self.label("key_held")?,
+        let made = assemble(alloc, Isa::Cdp1802, &text)?;
+        Ok(Source {
+            edition,
+            text,
+            made,
         })
     }
 
-    fn form(&self, alloc: Global) -> Result<Form, SourceFault> {
-        let table = self.label("table")?;
+    // None where a label is missing.
+    fn form(&self, alloc: Global) -> Option<Form> {
+        let table = self.made.symbol("table")?;
+        let key_tests = KeyTests {
+            first: self.made.symbol("key_test")?,
+            last: self.made.symbol("key_held")?,
+        };
         let (instructions, stray) = self.lines(alloc, table);
-        Ok(Form {
+        Some(Form {
             instructions,
             stray,
             routines: self.routines(table),
             shifts: self.shifts(),
             labels: self.labels(),
             misplaced: self.count_misplaced(table),
-            key_tests: self.key_tests()?,
+            key_tests,
         })
     }
 
     // How many lines have an instruction, and how many give bytes by DB, DW or DS elsewhere.
-    fn lines(&self, alloc: Global, table: u16) -> (u32, u32) {
-        let mut instructions = 0u32;
-        let mut stray = 0u32;
+    fn lines(&self, alloc: Global, table: u16) -> (u64, u64) {
+        let mut instructions = 0u64;
+        let mut stray = 0u64;
         let mut rest = self.text.as_slice();
         for number in 1..u32::MAX {
             let Some((bytes, more)) = next_line(rest) else {
@@ -234,8 +208,8 @@ impl Source {
         self.made.byte(at) == Some(high) && self.made.byte(at.wrapping_add(1)) == Some(low)
     }
 
-    fn routines(&self, table: u16) -> usize {
-        let mut count = 0usize;
+    fn routines(&self, table: u16) -> u64 {
+        let mut count = 0u64;
         let mut at = table;
         for name in ROUTINES {
             if let Some(routine) = self.made.symbol(*name)
@@ -248,8 +222,8 @@ impl Source {
         count
     }
 
-    fn shifts(&self) -> usize {
-        let mut count = 0usize;
+    fn shifts(&self) -> u64 {
+        let mut count = 0u64;
         let mut at = self.made.symbol(SHIFTS[0]).unwrap_or(0);
         for name in SHIFTS {
             if self.is_shift(at) && self.made.symbol(*name) == Some(at) {
@@ -260,8 +234,8 @@ impl Source {
         count
     }
 
-    fn labels(&self) -> usize {
-        let mut count = 0usize;
+    fn labels(&self) -> u64 {
+        let mut count = 0u64;
         for (name, address) in LABELS.iter().zip(addresses_of(self.edition)) {
             if self.made.symbol(*name) == Some(address) {
                 count = count.saturating_add(1);
@@ -285,8 +259,8 @@ impl Source {
     }
 
     // How many addresses have a byte of another part's text, or none where one is due.
-    fn count_misplaced(&self, table: u16) -> u32 {
-        let mut count = 0u32;
+    fn count_misplaced(&self, table: u16) -> u64 {
+        let mut count = 0u64;
         for address in 0..=u16::MAX {
             let given = match self.made.line_of(address) {
                 Some(number) => self.part_of_line(number),

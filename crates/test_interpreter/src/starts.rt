@@ -1,6 +1,8 @@
 //! Runs that keep what is told of their last dispatch point: with which games one starts, and what it meets up to its stop.
 
+use crate::edition::name as edition_name;
 use chip8_lang::{Edition, Stop};
+use std::alloc::Global;
 use vip_keypad::Script;
 use vip_relation::{Met, StartFault, Vip};
 
@@ -18,17 +20,29 @@ const ZEROS: [u8; 3_233] = [0; 3_233];
 
 /// Starts runs of both editions, with games that fit and with one that doesn't, and writes what comes of each.
 pub fn write_starts(rt: &HostRuntime) -> anyhow::Result<()> {
-    let keys = Script::empty(rt.alloc());
     println!(rt; "runs that are started:")?;
-    for game in [&ZEROS[..0], &LOAD, &ZEROS[..3_232], &ZEROS] {
-        println!(rt; "  usual, {} bytes:", game.len())?;
-        write_start(rt, Vip::start(rt.alloc(), game, &keys))?;
-    }
-    for game in [&LOAD, &ZEROS[..2_976], &ZEROS[..2_977]] {
-        println!(rt; "  tall, {} bytes:", game.len())?;
-        write_start(rt, Vip::start_as(rt.alloc(), Edition::Tall, game, &keys))?;
+    for (edition, game) in [
+        (Edition::Usual, &ZEROS[..0]),
+        (Edition::Usual, &LOAD),
+        (Edition::Usual, &ZEROS[..3_232]),
+        (Edition::Usual, &ZEROS),
+        (Edition::Tall, &LOAD),
+        (Edition::Tall, &ZEROS[..2_976]),
+        (Edition::Tall, &ZEROS[..2_977]),
+    ] {
+        println!(rt; "  {}, {} bytes:", edition_name(edition), game.len())?;
+        write_start(rt, start(rt.alloc(), edition, game))?;
     }
     Ok(())
+}
+
+/// Starts a run with no key down, in the usual edition by the call that names none.
+fn start(alloc: Global, edition: Edition, game: &[u8]) -> Result<Vip, StartFault> {
+    let keys = Script::empty(alloc);
+    match edition {
+        Edition::Usual => Vip::start(alloc, game, &keys),
+        Edition::Tall => Vip::start_as(alloc, Edition::Tall, game, &keys),
+    }
 }
 
 /// Writes the run that was started, or why none was.
