@@ -2,6 +2,7 @@
 //! in a line is the line and its cause, a byte of a ROM that differs both bytes and their address, and what holds another fault is that fault.
 
 use asm_core::{AsmCause, AsmFault};
+use asm_lex::{LexFault, ValueFault};
 use chip8_source::ImageFault;
 use cycle_check::{CertCause, CertFault, TimingCause};
 use game_check::{ProofCause, ProofFault};
@@ -56,6 +57,15 @@ fn write_of_outside(rt: &HostRuntime) -> anyhow::Result<()> {
 }
 
 fn write_of_assembler(rt: &HostRuntime) -> anyhow::Result<()> {
+    let lines = [
+        ("BadText", LexFault::BadText),
+        ("UnknownMnemonic", LexFault::UnknownMnemonic),
+        ("BadOperand", LexFault::BadOperand),
+    ];
+    let values = [
+        ("Undefined", ValueFault::Undefined),
+        ("Range", ValueFault::Range),
+    ];
     let causes = [
         ("BadText", AsmCause::BadText),
         ("UnknownMnemonic", AsmCause::UnknownMnemonic),
@@ -67,6 +77,8 @@ fn write_of_assembler(rt: &HostRuntime) -> anyhow::Result<()> {
         ("Overlap", AsmCause::Overlap),
         ("TooLarge", AsmCause::TooLarge),
     ];
+    write(rt, "LexFault", &lines)?;
+    write(rt, "ValueFault", &values)?;
     write(rt, "AsmCause", &causes)
 }
 
