@@ -92,7 +92,7 @@ fn trace(alloc: Global, cut: &Cut<'_>, limit: u64, out: &mut MemSink) -> anyhow:
     requires { limit ≤ 120_000 }
 {
     let mut run = Run::start_as(alloc, cut.edition, cut.game, cut.script)?;
-    Ok(show_trace(&mut run, limit, TIMED, false, out)?)
+    Ok(show_trace(&mut run, limit, TIMED, out)?)
 }
 
 /// Writes the file of the run at its last dispatch point up to the first limit.
@@ -108,7 +108,7 @@ fn resume(alloc: Global, cut: &Cut<'_>, file: &[u8], out: &mut MemSink) -> anyho
     requires { cut.now.last ≤ 120_000 }
 {
     let mut run = Run::resume(alloc, file, cut.script)?;
-    Ok(show_trace(&mut run, cut.last, TIMED, false, out)?)
+    Ok(show_trace(&mut run, cut.last, TIMED, out)?)
 }
 
 impl Written {

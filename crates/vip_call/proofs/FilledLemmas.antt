@@ -37,7 +37,7 @@ module _ {A B : Type 0} (f : A → B) where
   start_mosts (start.Demo number) = refl
 
   show_mosts : (s : Show A) → mosts (show_files (map_show f s)) ≡ mosts (show_files s)
-  show_mosts (show.Trace with_time with_words with_screen) = refl
+  show_mosts (show.Trace columns) = refl
   show_mosts show.Pictures = refl
   show_mosts (show.Commands file echo) = refl
   show_mosts show.State = refl
@@ -134,7 +134,7 @@ behind_start (start.State file) xs = other_files xs
 behind_start (start.Demo number) xs = xs
 
 abbrev fill_show : Show (Unit {0}) → List (List ℕ) → Show (List ℕ)
-fill_show (show.Trace with_time with_words with_screen) xs = show.Trace with_time with_words with_screen
+fill_show (show.Trace columns) xs = show.Trace columns
 fill_show show.Pictures xs = show.Pictures
 fill_show (show.Commands file echo) xs = show.Commands (first_file xs) echo
 fill_show show.State xs = show.State
@@ -208,7 +208,7 @@ start_left (start.State file) ns = refl
 start_left (start.Demo number) ns = refl
 
 show_filled : (s : Show (List ℕ)) (ns : List (Needed (List ℕ))) → fill_show (map_show bare s) (files_of (show_files s ++ ns)) ≡ s
-show_filled (show.Trace with_time with_words with_screen) ns = refl
+show_filled (show.Trace columns) ns = refl
 show_filled show.Pictures ns = refl
 show_filled (show.Commands file echo) ns = refl
 show_filled show.State ns = refl
@@ -216,7 +216,7 @@ show_filled show.Profile ns = refl
 show_filled (show.Summary number) ns = refl
 
 show_left : (s : Show (List ℕ)) (ns : List (Needed (List ℕ))) → behind_show (map_show bare s) (files_of (show_files s ++ ns)) ≡ files_of ns
-show_left (show.Trace with_time with_words with_screen) ns = refl
+show_left (show.Trace columns) ns = refl
 show_left show.Pictures ns = refl
 show_left (show.Commands file echo) ns = refl
 show_left show.State ns = refl

@@ -107,8 +107,8 @@ module _ (law : EveryRun) (from : FromFile) (frames : EveryFrame) (frames_from :
   shows_as :
       (known : Known) (e : Edition) (s : Start) (fits : Fits e s) (keys : Option (List ℕ)) (limit : ℕ) (shown_as : Show (List ℕ)) (output : Output)
       → ShowComes known e s keys limit shown_as (Given output) → RunIsChip8 e s keys limit shown_as output.status output.report
-  shows_as known e s fits keys limit (show.Trace with_time with_words with_screen) output comes =
-      shows_run e s fits keys limit (show.Trace with_time with_words with_screen) output _ _ (λ script. refl) comes
+  shows_as known e s fits keys limit (show.Trace columns) output comes =
+      shows_run e s fits keys limit (show.Trace columns) output _ _ (λ script. refl) comes
   shows_as known e s fits keys limit show.Pictures output comes = shows_run e s fits keys limit show.Pictures output _ _ (λ script. refl) comes
   shows_as known e s fits keys limit (show.Commands text echo) output comes =
       let commands = comes.value in

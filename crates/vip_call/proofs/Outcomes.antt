@@ -293,7 +293,7 @@ module _ (given : RomsGiven) where
 
   show_once : (known : Known) (e : Edition) (s : Start) (keys : Option (List ℕ)) (limit : ℕ) (shown : Show (List ℕ))
       → OneEnd (ShowComes known e s keys limit shown) (ShowComes known e s keys limit shown)
-  show_once known e s keys limit (show.Trace with_time with_words with_screen) = run_once e keys _
+  show_once known e s keys limit (show.Trace columns) = run_once e keys _
   show_once known e s keys limit show.Pictures = run_once e keys _
   show_once known e s keys limit (show.Commands text echo) =
       once_behind (CommandsCome Chip8 known.names echo limit text) _ (result_agree (commands_of Chip8 known.names echo limit text) command_refusal)
@@ -413,7 +413,7 @@ module _ (given : RomsGiven) where
         (λ script. free_behind (RomComes e) _ (part _ _ rom_refusal (λ f x. rom_fine f (rom_never e f x))) (λ _. ends_free (outcome script) (sound script)))
 
     show_free : (known : Known) (e : Edition) (s : Start) (keys : Option (List ℕ)) (limit : ℕ) (shown : Show (List ℕ)) → Free loaded (ShowComes known e s keys limit shown)
-    show_free known e s keys limit (show.Trace with_time with_words with_screen) = run_free e keys _ (λ script. run_ends (run_ending e s script limit))
+    show_free known e s keys limit (show.Trace columns) = run_free e keys _ (λ script. run_ends (run_ending e s script limit))
     show_free known e s keys limit show.Pictures = run_free e keys _ (λ script. run_ends (run_ending e s script limit))
     show_free known e s keys limit (show.Commands text echo) =
         free_behind (CommandsCome Chip8 known.names echo limit text) _ (part _ _ command_refusal (λ f x. command_fine f)) (λ commands. run_free e keys _ (λ script. run_ends _))

@@ -1,5 +1,5 @@
 -- What was saved of a run goes on as that run, by the law of runs that are joined and by that of the debugger's commands behind a dispatch point.
-use Rattle.std.proofs.Common.{◌≡◌, ℕ, ◌≤◌, Bool, List, [], ◌∷◌, ◌++◌, Ok, Option, Some, None, append_assoc, append-nil, refl, sym, ap, ap₂, subst, subst₂, ◌∙◌, arith}
+use Rattle.std.proofs.Common.{◌≡◌, ℕ, ◌≤◌, List, [], ◌∷◌, ◌++◌, Ok, Option, Some, None, false, append_assoc, append-nil, refl, sym, ap, ap₂, subst, subst₂, ◌∙◌, arith}
 use Rattle.std.specs.Prelude.{if◌then◌else◌}
 use Rattle.std.specs.Option.{option_map}
 use Rattle.std.proofs.lemmas.Grind.{flat_map-append}
@@ -21,6 +21,7 @@ use Rattle.vip_show.specs.Written.{file_of}
 use Rattle.vip_show.proofs.OneAnswer.{one_edition}
 use Rattle.vip_text.specs.Endings.Ending.{AtLimit}
 use Rattle.vip_text.specs.StateFile.{shown, IsAccepted}
+use Rattle.vip_text.specs.Traces.{trace_line}
 use Rattle.vip_text.specs.declared.trace.TraceColumns.{TraceColumns}
 use Rattle.vip_debug.specs.Answers.{moves_until, pieces, place_after, at_start, written}
 use Rattle.vip_debug.specs.Fold.{echoed}
@@ -65,6 +66,11 @@ lines_joined : (e : Edition) (columns : TraceColumns) (xs ys : List Event)
     → trace_lines e columns (xs ++ ys) ≡ trace_lines e columns xs ++ trace_lines e columns ys
 unfolding trace_lines
 lines_joined e columns xs ys = flat_map-append (trace_piece e columns) xs ys
+
+-- the lines are the same without the screen behind them
+lines_alike : (e : Edition) (columns : TraceColumns) (es : List Event) → trace_lines e (record columns { screen = false }) es ≡ trace_lines e columns es
+unfolding trace_lines trace_line
+lines_alike e columns es = refl
 
 last_after_both : (last : Option Machine) (xs ys : List Event) → last_after last (xs ++ ys) ≡ last_after (last_after last xs) ys
 unfolding last_after
@@ -135,7 +141,7 @@ module _ (joins : SavedJoins) (commands_behind : GoesOnBehind) where
 
     goes_on : GoesOn e s file other later
     goes_on = record {
-      lines = λ columns with_screen. lines columns with_screen;
+      lines = λ columns. lines columns;
       pictures =
           ap₂ (ran later)
           (same_pictures e s other later ∙ j.pictures
@@ -146,26 +152,27 @@ module _ (joins : SavedJoins) (commands_behind : GoesOnBehind) where
     }
       where
         lines :
-            (columns : TraceColumns) (with_screen : Bool)
+            (columns : TraceColumns)
             → ran later
             (trace_lines e columns (events_shown e s other later)
-            ++ (if with_screen then screen_piece e (last_dispatch (events_in e s other later)) else []))
+            ++ (if columns.screen then screen_piece e (last_dispatch (events_in e s other later)) else []))
             (run_ending e s other later)
             ≡ ran later
-            ((trace_lines e columns (events_shown e s other t) ++ [])
+            ((trace_lines e (record columns { screen = false }) (events_shown e s other t) ++ [])
             ++ (trace_lines e columns (events_shown e (Saved file) other later)
-            ++ (if with_screen then screen_piece e (last_dispatch (events_in e (Saved file) other later)) else [])))
+            ++ (if columns.screen then screen_piece e (last_dispatch (events_in e (Saved file) other later)) else [])))
             (run_ending e (Saved file) other later)
-        lines columns with_screen =
+        lines columns =
             let own : List Event = events_behind (interpreter_of e) other (shown file) later in
             ap₂ (ran later)
-            (ap₂ (λ ls last. ls ++ (if with_screen then screen_piece e last else []))
+            (ap₂ (λ ls last. ls ++ (if columns.screen then screen_piece e last else []))
             (ap (trace_lines e columns) (shown_joined e s other t later own j.events)
             ∙ lines_joined e columns (events_shown e s other t) own
-            ∙ ap (λ ls. ls ++ trace_lines e columns own) (sym (append-nil (trace_lines e columns (events_shown e s other t)))))
+            ∙ ap (λ ls. ls ++ trace_lines e columns own)
+            (sym (append-nil (trace_lines e (record columns { screen = false }) (events_shown e s other t)) ∙ lines_alike e columns (events_shown e s other t))))
             same_last
-            ∙ append_assoc (trace_lines e columns (events_shown e s other t) ++ []) (trace_lines e columns own)
-            (if with_screen then screen_piece e (last_dispatch (events_in e (Saved file) other later)) else []))
+            ∙ append_assoc (trace_lines e (record columns { screen = false }) (events_shown e s other t) ++ []) (trace_lines e columns own)
+            (if columns.screen then screen_piece e (last_dispatch (events_in e (Saved file) other later)) else []))
             j.ending
 
         answers :

@@ -20,7 +20,6 @@ use Rattle.vip_debug.specs.Answers.{moves_until, at_start, written}
 use Rattle.vip_debug.proofs.Reaching.{last_until}
 use Rattle.vip_text.specs.Endings.{Ending}
 use Rattle.vip_text.specs.StateFile.{shown}
-use Rattle.vip_text.specs.Traces.{columns_of}
 use Rattle.vip_show.specs.Output.{picture_pieces}
 use Rattle.vip_show.specs.StateOutput.{saved_file}
 use Rattle.vip_words.specs.Request.{most_cycles}
@@ -228,11 +227,11 @@ module _ (every : EveryRun) (from : FromAccepted) (saves : SavesShown) (law : Ru
   transcribed_as :
       (known : Known) (e : Edition) (s : Start) (fits : Fits e s) (keys : Option (List ℕ)) (limit : ℕ) (asked_show : Show (List ℕ)) (output : Output)
       → ShowComes known e s keys limit asked_show (Given output) → Transcribed law known e s keys limit asked_show output.pieces output.status output.report
-  transcribed_as known e s fits keys limit (show.Trace with_time with_words with_screen) output comes =
-      transcribed_run known e s fits keys limit (show.Trace with_time with_words with_screen) output _ _
+  transcribed_as known e s fits keys limit (show.Trace columns) output comes =
+      transcribed_run known e s fits keys limit (show.Trace columns) output _ _
       (λ script. (
-        traced_is e (columns_of with_time with_words) with_screen (events_shown e s script limit) (events_in e s script limit)
-            ∙ ap (λ ps. trace_text e (columns_of with_time with_words) with_screen (points_shown e s script limit) (last_point ps)) (all_are e s script limit),
+        traced_is e columns (events_shown e s script limit) (events_in e s script limit)
+            ∙ ap (λ ps. trace_text e columns (points_shown e s script limit) (last_point ps)) (all_are e s script limit),
         refl,
       ))
       comes

@@ -215,11 +215,11 @@ module _ (e : Edition) where
 
   -- the lines of some events, and the screen at the last dispatch point of all
   pub traced_is :
-      (columns : TraceColumns) (with_screen : Bool) (shown all : List Event)
-      → trace_lines e columns shown ++ (if with_screen then screen_piece e (last_dispatch all) else [])
-      ≡ trace_text e columns with_screen (points_of e shown) (last_point (points_of e all))
-  traced_is columns with_screen shown all =
-      ap₂ (λ lines last. lines ++ (if with_screen then last else []))
+      (columns : TraceColumns) (shown all : List Event)
+      → trace_lines e columns shown ++ (if columns.screen then screen_piece e (last_dispatch all) else [])
+      ≡ trace_text e columns (points_of e shown) (last_point (points_of e all))
+  traced_is columns shown all =
+      ap₂ (λ lines last. lines ++ (if columns.screen then last else []))
       (lines_are columns shown)
       (screen_is (last_dispatch all) ∙ ap (last_screen e) (sym (last_is_last all)))
 

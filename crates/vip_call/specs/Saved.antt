@@ -1,5 +1,5 @@
 -- What was saved of a run goes on as that run.
-use Rattle.std.specs.Prelude.{◌≡◌, ◌≤◌, ℕ, Bool, false, List, [], ◌∷◌, ◌++◌, Option, Some, Ok}
+use Rattle.std.specs.Prelude.{◌≡◌, ◌≤◌, ℕ, false, List, [], ◌∷◌, ◌++◌, Option, Some, Ok}
 use Rattle.machine.specs.Keys.{Event as KeyEvent}
 use Rattle.chip8_lang.specs.declared.view.Edition.{Edition}
 use Rattle.rom_board.specs.Saved.{AgreeBefore}
@@ -32,9 +32,9 @@ IsJoined _ _ whole = ⊥
 -- from the file.
 pub record GoesOn (e : Edition) (s : Start) (file : List ℕ) (script : List KeyEvent) (limit : ℕ) : Type 0 where
   pub lines :
-      (columns : TraceColumns) (with_screen : Bool)
-      → IsJoined (traced columns false e s script (shown file).cycle) (traced columns with_screen e (Saved file) script limit)
-      (traced columns with_screen e s script limit)
+      (columns : TraceColumns)
+      → IsJoined (traced (record columns { screen = false }) e s script (shown file).cycle) (traced columns e (Saved file) script limit)
+      (traced columns e s script limit)
   pub pictures : IsJoined (pictured e s script (shown file).cycle) (pictured e (Saved file) script limit) (pictured e s script limit)
   pub state : saved e limit (events_in e s script limit) ≡ saved e limit (events_in e (Saved file) script limit)
   pub answers :

@@ -10,7 +10,6 @@ use Rattle.chip8_lang.specs.Places.{addresses, most_addresses, pixels}
 use Rattle.chip8_lang.specs.Timed.{Shown, shown_behind, timed_run}
 use Rattle.vip_text.specs.Endings.{Ending}
 use Rattle.vip_text.specs.StateFile.{bytes_at, edition_byte}
-use Rattle.vip_text.specs.Traces.{columns_of}
 use Rattle.vip_relation.specs.State.{Start}
 use Rattle.vip_relation.specs.State.Start.{Reset, Saved}
 use Rattle.vip_words.specs.DebugGrammar.{commands_of}
@@ -122,8 +121,8 @@ module _ (e : Edition) (s : Start) (points : List Point) where
   -- A run up to a limit, of whose code this is known, which has these points behind its start and is over so in cycle `over`, is shown so: these pieces are
   -- written, and this end is reported.
   abbrev pub IsShown : Known → ℕ → (List (List ℕ) → Type 0) → Ending → ℕ → Ending → Show (List ℕ) → List (List ℕ) → Type 0
-  IsShown known limit InTime ending over reported (Trace with_time with_words with_screen) pieces =
-      (pieces ≡ trace_text e (columns_of with_time with_words) with_screen points (last_point all_points)) × (reported ≡ ending)
+  IsShown known limit InTime ending over reported (Trace columns) pieces =
+      (pieces ≡ trace_text e columns points (last_point all_points)) × (reported ≡ ending)
   IsShown known limit InTime ending over reported Pictures pieces =
       ArePictures e all_points (windows_ended (first_cycle e s)) (windows_ended over) pieces × InTime pieces × (reported ≡ ending)
   IsShown known limit InTime ending over reported (Commands text echo) pieces = Debugged limit ending over reported (commands_of Chip8 known.names echo limit text) pieces

@@ -1,5 +1,5 @@
 -- What is written of a game's run, as a transcript of CHIP-8: points of the language under a key script, and their texts. No machine is spoken of.
-use Rattle.std.specs.Prelude.{◌≡◌, ℕ, ◌+◌, ◌-◌, ◌<◌, ◌≤◌, nat_lt, Bool, if◌then◌else◌, List, [], ◌∷◌, ◌++◌, length, map, filter, slice_get, Option, Some, None, codes}
+use Rattle.std.specs.Prelude.{◌≡◌, ℕ, ◌+◌, ◌-◌, ◌<◌, ◌≤◌, nat_lt, if◌then◌else◌, List, [], ◌∷◌, ◌++◌, length, map, filter, slice_get, Option, Some, None, codes}
 use Rattle.std.specs.List.{last_or, range_with_len}
 use Rattle.machine.specs.Keys.{Event}
 use Rattle.machine.specs.Pictures.{window_end}
@@ -111,8 +111,8 @@ module _ (e : Edition) where
   lit (Some p) = lit_in_rows p.state.screen (range_with_len 0 (rows_of e))
 
   -- `trace`: the lines of the points, and then the screen at the last one, if there is one
-  abbrev pub trace_text : TraceColumns → Bool → List Point → Option Point → List (List ℕ)
-  trace_text columns with_screen points last = map (line columns) points ++ (if with_screen then last_screen last else [])
+  abbrev pub trace_text : TraceColumns → List Point → Option Point → List (List ℕ)
+  trace_text columns points last = map (line columns) points ++ (if columns.screen then last_screen last else [])
 
   -- `demo`: the counts of points and of n pictures, and the lit pixels at the last point
   abbrev pub summary_text : ℕ → ℕ → List Point → Option Point → List (List ℕ)

@@ -428,35 +428,42 @@ module _ (columns : TraceColumns) (limit : ℕ) (old new : VipState) (out out' o
   screen : option_to_list (screen_told new) ≡ screen_piece old.edition (last_dispatch (events_to old limit))
   screen = screen_of old.edition (events_to old limit) (last_dispatch (events_to old limit)) new ran.edition ran.last ran.screen
 
-  -- with the screen behind the lines
-  pub traced-whole : (done : Unit {0}) → PieceAnswers (screen_told new) out' out'' (Ok done)
-      → ShowsRun old limit (run_trace columns true old limit) out out'' tally.end
-  traced-whole done put = record {
+  -- the lines, and the screen behind them where it is asked for
+  abbrev lines_and : Bool → List (List ℕ)
+  lines_and asked =
+      trace_lines old.edition columns (events_left old limit)
+      ++ (if asked then screen_piece old.edition (last_dispatch (events_to old limit)) else [])
+
+  pub traced-whole : columns.screen ≡ true → (done : Unit {0}) → PieceAnswers (screen_told new) out' out'' (Ok done)
+      → ShowsRun old limit (run_trace columns old limit) out out'' tally.end
+  traced-whole asked done put = record {
     puts =
-        PutsAll-append (trace_lines old.edition columns (events_left old limit))
+        subst (λ asked. PutsAll (lines_and asked) out out'') (sym asked)
+        (PutsAll-append (trace_lines old.edition columns (events_left old limit))
         (screen_piece old.edition (last_dispatch (events_to old limit))) out out' out'' lines_out
-        (rw (← screen) (puts-piece (screen_told new) out' out'' done put));
+        (rw (← screen) (puts-piece (screen_told new) out' out'' done put)));
     ending = ran.ending;
   }
 
-  pub traced-lines : ShowsRun old limit (run_trace columns false old limit) out out' tally.end
-  traced-lines = record { puts = rw append-nil lines_out; ending = ran.ending }
+  pub traced-lines : columns.screen ≡ false → ShowsRun old limit (run_trace columns old limit) out out' tally.end
+  traced-lines unasked = record { puts = subst (λ asked. PutsAll (lines_and asked) out out') (sym unasked) (rw append-nil lines_out); ending = ran.ending }
 
-  fails_at : (piece : Option (List ℕ)) (e : Failed) → option_to_list piece ≡ screen_piece old.edition (last_dispatch (events_to old limit))
-      → PieceAnswers piece out' out'' (Err e) → FailsWithin (run_trace columns true old limit) out out''
-  fails_at None e is fault = let bad = fault.0 in cc
-  fails_at (Some piece) e is fault =
-      rw (← is) (FailsWithin-snoc (trace_lines old.edition columns (events_left old limit)) piece [] out out' out'' lines_out fault)
+  fails_at : columns.screen ≡ true → (piece : Option (List ℕ)) (e : Failed) → option_to_list piece ≡ screen_piece old.edition (last_dispatch (events_to old limit))
+      → PieceAnswers piece out' out'' (Err e) → FailsWithin (run_trace columns old limit) out out''
+  fails_at asked None e is fault = let bad = fault.0 in cc
+  fails_at asked (Some piece) e is fault =
+      subst (λ asked. FailsWithin (lines_and asked) out out'') (sym asked)
+      (rw (← is) (FailsWithin-snoc (trace_lines old.edition columns (events_left old limit)) piece [] out out' out'' lines_out fault))
 
-  pub traced-fails : (e : Failed) → PieceAnswers (screen_told new) out' out'' (Err e) → FailsWithin (run_trace columns true old limit) out out''
-  traced-fails e fault = fails_at (screen_told new) e screen fault
+  pub traced-fails : columns.screen ≡ true → (e : Failed) → PieceAnswers (screen_told new) out' out'' (Err e) → FailsWithin (run_trace columns old limit) out out''
+  traced-fails asked e fault = fails_at asked (screen_told new) e screen fault
 
 -- a fault among the lines
-pub traced-early : (columns : TraceColumns) (with_screen : Bool) (v : VipState) (limit : ℕ) (out out' : SinkMeaning)
-    → FailsWithin (pieces_of (Lines columns) v limit (events_left v limit)) out out' → FailsWithin (run_trace columns with_screen v limit) out out'
-traced-early columns with_screen v limit out out' fault =
+pub traced-early : (columns : TraceColumns) (v : VipState) (limit : ℕ) (out out' : SinkMeaning)
+    → FailsWithin (pieces_of (Lines columns) v limit (events_left v limit)) out out' → FailsWithin (run_trace columns v limit) out out'
+traced-early columns v limit out out' fault =
     FailsWithin-more (trace_lines v.edition columns (events_left v limit))
-    (if with_screen then screen_piece v.edition (last_dispatch (events_to v limit)) else []) out out'
+    (if columns.screen then screen_piece v.edition (last_dispatch (events_to v limit)) else []) out out'
     (subst (λ pieces. FailsWithin pieces out out') (lines-are columns v limit) fault)
 
 -- ---- the line of summary

@@ -29,21 +29,20 @@ fn put_screen<O: Sink>(run: &Run, screen: &[u8], out: &mut O) -> Result<(), Fail
     out.put(text.as_slice())
 }
 
-/// Runs a machine that begins, and puts the line of each dispatch point, with these columns, and at the end the screen where it is asked for, each as one
+/// Runs a machine that begins, and puts the line of each dispatch point, with these columns, and at the end the screen where they ask for it, each as one
 /// piece. A put that fails ends it.
 pub fn show_trace<O: Sink>(
     run: &mut Run,
     limit: u64,
     columns: TraceColumns,
-    with_screen: bool,
     out: &mut O,
 ) -> Result<RunEnd, Failed>
     requires fresh { IsFresh run.old }
     requires limit { limit ≤ MOST_CYCLE }
-    ensures { ShowAnswers run.old limit (run_trace columns with_screen run.old limit) (O.meaning out.old) (O.meaning out.new) result }
+    ensures { ShowAnswers run.old limit (run_trace columns run.old limit) (O.meaning out.old) (O.meaning out.new) result }
 {
-    let tally = put_events(run, limit, Shown::Lines(columns), with_screen, out)?;
-    if with_screen {
+    let tally = put_events(run, limit, Shown::Lines(columns), columns.screen, out)?;
+    if columns.screen {
         put_screen(run, tally.screen.as_slice(), out)?;
     }
     Ok(tally.end)

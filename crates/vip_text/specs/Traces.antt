@@ -25,18 +25,18 @@ abbrev pub comment_text : Bool → Option ℕ → List ℕ
 comment_text true (Some opcode) = codes "  ; " ++ opcode_words opcode
 comment_text with_words opcode = []
 
--- whether a line shows its time, and its opcode in words
-abbrev pub columns_of : Bool → Bool → TraceColumns
-columns_of with_time with_words = record { time = with_time; words = with_words }
-
--- neither, and the time alone
+-- the states alone, and their time beside them
 abbrev pub plain : TraceColumns
-plain = columns_of false false
+plain = record { time = false; words = false; screen = false }
 
 abbrev pub timed : TraceColumns
-timed = columns_of true false
+timed = record plain { time = true }
 
--- pc, opcode, V0 to VF, I, timers and tone, and the stack with the oldest address first
+-- what is asked for besides the state, in order
+abbrev pub columns_text : TraceColumns → View → List ℕ
+columns_text columns view = time_text columns.time view ++ comment_text columns.words view.opcode
+
+-- pc, opcode, V0 to VF, I, timers and tone, the stack with the oldest address first, and the columns
 unfoldable pub trace_line : TraceColumns → View → List ℕ
 trace_line columns view =
     hex4 view.pc ++ codes " " ++ opcode_text view.opcode
@@ -44,6 +44,5 @@ trace_line columns view =
     ++ codes " I " ++ hex4 view.i
     ++ timers_text view
     ++ codes " S" ++ words_text view.stack
-    ++ time_text columns.time view
-    ++ comment_text columns.words view.opcode
+    ++ columns_text columns view
     ++ newline

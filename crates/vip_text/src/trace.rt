@@ -5,32 +5,35 @@ ghost use Rattle.arrayvec.specs.ArrayVec.{array_vec_len};
 ghost use Rattle.vip_byte.specs.Room.{HasRoom};
 ghost use Rattle.vip_byte.specs.HexText.{hex4};
 ghost use Rattle.chip8_lang.specs.View.{seen};
-ghost use Rattle.vip_text.specs.Traces.{comment_text, opcode_text, time_text, timers_text, trace_line};
+ghost use Rattle.vip_text.specs.Traces.{columns_text, comment_text, opcode_text, time_text, timers_text, trace_line};
 
 use crate::write::{put_bytes, put_words};
 use chip8_lang::StateView;
 use chip8_words::opcode_words;
 use vip_byte::{Buffer, hex2, hex4, put, put_number};
 
-/// What the line of a trace shows behind the state.
+/// What a trace shows besides the states, a field for each option that asks for it.
 #[derive(Clone, Copy)]
 pub struct TraceColumns {
-    /// The count of ticks and the cycle.
+    /// In each line, the count of ticks and the cycle.
     pub time: bool,
-    /// The opcode in words, where there is one.
+    /// In each line, the opcode in words, where there is one.
     pub words: bool,
+    /// Behind the lines, the screen at the last dispatch point.
+    pub screen: bool,
 }
 
 /// None of them.
 pub const PLAIN: TraceColumns = TraceColumns {
     time: false,
     words: false,
+    screen: false,
 };
 
 /// The count of ticks and the cycle alone.
 pub const TIMED: TraceColumns = TraceColumns {
     time: true,
-    words: false,
+    ..PLAIN
 };
 
 /// Writes the line of a state into an empty buffer, with these columns behind it.
@@ -44,8 +47,7 @@ pub fn trace_text(view: &StateView, columns: TraceColumns, into: &mut Buffer)
     put_timers(into, view);
     put(into, b" S");
     put_words(into, view.stack.as_slice());
-    put_time(into, view, columns.time);
-    put_comment(into, view.opcode, columns.words);
+    put_columns(into, view, columns);
     put(into, b"\n");
 }
 
@@ -95,6 +97,16 @@ fn put_timers(into: &mut Buffer, view: &StateView)
         b' ', b'D', b'T', b' ', d1, d2, b' ', b'S', b'T', b' ', s1, s2, b' ', b'Q', b' ', tone,
     ];
     put(into, &text);
+}
+
+/// Appends the columns that are asked for.
+fn put_columns(into: &mut Buffer, view: &StateView, columns: TraceColumns)
+    requires { HasRoom into.old.items 70 }
+    ensures items { into.new.items ≡ into.old.items ++ columns_text columns (seen view.now) }
+    ensures len { array_vec_len into.new ≤ array_vec_len into.old + 70 }
+{
+    put_time(into, view, columns.time);
+    put_comment(into, view.opcode, columns.words);
 }
 
 /// Appends the count of ticks and the cycle where they are asked for.

@@ -62,15 +62,7 @@ fn load_show<'a, F: Files>(
             let file = open_file(alloc, files, &commands_file(file))?;
             Ok(Show::Commands { file, echo })
         }
-        Show::Trace {
-            with_time,
-            with_words,
-            with_screen,
-        } => Ok(Show::Trace {
-            with_time,
-            with_words,
-            with_screen,
-        }),
+        Show::Trace(columns) => Ok(Show::Trace(columns)),
         Show::Pictures => Ok(Show::Pictures),
         Show::State => Ok(Show::State),
         Show::Profile => Ok(Show::Profile),

@@ -128,7 +128,7 @@ module _ (e : Edition) (s : Start) (keys : Option (List ℕ)) (known : Known) (l
     Comes = RunTo e keys (λ script. shown_as ready (begun e s script) limit)
 
     comes-as : (asked : Show (List ℕ)) → IsShow known limit asked ready → (o : Outcome) → Comes o → ShowComes known e s keys limit asked o
-    comes-as (show.Trace with_time with_words with_screen) is o come = rw is at come
+    comes-as (show.Trace columns) is o come = rw is at come
     comes-as show.Pictures is o come = rw is at come
     comes-as (show.Commands text echo) is o come =
         behind (CommandsCome Chip8 known.names echo limit text) (λ commands. RunTo e keys (λ script. debugged known.labels commands e s script limit)) is.0 is.2 o

@@ -7,7 +7,6 @@ use Rattle.vip_relation.specs.Meets.{HasStopped}
 use Rattle.vip_relation.specs.State.{Start, VipState, begun}
 use Rattle.vip_relation.specs.State.Start.{Reset as AtReset}
 use Rattle.vip_text.specs.StateFile.{IsAccepted}
-use Rattle.vip_text.specs.Traces.{columns_of}
 use Rattle.vip_words.specs.DebugGrammar.{commands_of}
 use Rattle.vip_words.specs.Spoken.{Spoken}
 use Rattle.vip_words.specs.declared.debug_commands.Speaks.TheVariants.{Chip8, Machine as Processor}
@@ -79,7 +78,7 @@ MarksAtStart start (Err refusal) = RefusedBy (StartComes start) refusal
 
 -- what is shown of a run up to a limit is ready: its commands are those that their text says, and for a profile there is memory
 abbrev pub IsShow : Known → ℕ → Show (List ℕ) → ReadyShow → Type 0
-IsShow known limit (show.Trace with_time with_words with_screen) ready = ready ≡ shows.Trace (columns_of with_time with_words) with_screen
+IsShow known limit (show.Trace columns) ready = ready ≡ shows.Trace columns
 IsShow known limit show.Pictures ready = ready ≡ shows.Pictures
 IsShow known limit (show.Commands text echo) ready =
     (commands : List Spoken) × (labels : List (ℕ × List ℕ)) × (commands_of Chip8 known.names echo limit text ≡ Ok commands) × (labels ≡ known.labels)

@@ -1,5 +1,5 @@
 -- What each command comes to, by the contents of its files.
-use Rattle.std.specs.Prelude.{◌≡◌, ℕ, List, [], ◌∷◌, ◌++◌, Bool, drop, if◌then◌else◌, Option, Some, None, Result, Ok, Err, length, max}
+use Rattle.std.specs.Prelude.{◌≡◌, ℕ, List, [], ◌∷◌, ◌++◌, drop, if◌then◌else◌, Option, Some, None, Result, Ok, Err, length, max}
 use Rattle.machine.specs.Board.{Machine}
 use Rattle.machine.specs.Keys.{Event as KeyEvent, held_at}
 use Rattle.machine.specs.Run.{run_to}
@@ -35,7 +35,6 @@ use Rattle.vip_text.specs.StateFile.{shown as saved_machine, IsAccepted}
 use Rattle.vip_text.specs.Summaries.{summary_line}
 use Rattle.vip_text.specs.Endings.{Ending}
 use Rattle.vip_text.specs.Endings.Ending.{AtLimit, AtStop}
-use Rattle.vip_text.specs.Traces.{columns_of}
 use Rattle.vip_text.specs.declared.trace.TraceColumns.{TraceColumns}
 use Rattle.vip_link.specs.Roms.{receiver_text, sender_text}
 use Rattle.vip_words.specs.declared.request.BuiltIn.{BuiltIn}
@@ -117,11 +116,11 @@ abbrev pub ran : ℕ → List (List ℕ) → Ending → Outcome
 ran limit pieces ending = Shown pieces (end_status ending) (end_report limit ending)
 
 -- the lines behind its start, and the screen at the last dispatch point, which is the saved one where none came
-abbrev pub traced : TraceColumns → Bool → Edition → Start → List KeyEvent → ℕ → Outcome
-traced columns with_screen e s script limit =
+abbrev pub traced : TraceColumns → Edition → Start → List KeyEvent → ℕ → Outcome
+traced columns e s script limit =
     ran limit
     (trace_lines e columns (events_shown e s script limit)
-    ++ (if with_screen then screen_piece e (last_dispatch (events_in e s script limit)) else []))
+    ++ (if columns.screen then screen_piece e (last_dispatch (events_in e s script limit)) else []))
     (run_ending e s script limit)
 
 -- the pictures
@@ -174,8 +173,7 @@ debugged labels commands e s script limit = debugged_to labels limit (limit_from
 -- A run from a start, of whose code this is known, under a script file up to a limit that is shown so. Under the debugger it comes to the first fault of its
 -- commands, or else, as other runs do, to what their answers come to.
 abbrev pub ShowComes : Known → Edition → Start → Option (List ℕ) → ℕ → Show (List ℕ) → Judged Output
-ShowComes known e s keys limit (show.Trace with_time with_words with_screen) =
-    RunTo e keys (λ script. traced (columns_of with_time with_words) with_screen e s script limit)
+ShowComes known e s keys limit (show.Trace columns) = RunTo e keys (λ script. traced columns e s script limit)
 ShowComes known e s keys limit show.Pictures = RunTo e keys (λ script. pictured e s script limit)
 ShowComes known e s keys limit (show.Commands text echo) =
     bind (CommandsCome Chip8 known.names echo limit text) (λ commands. RunTo e keys (λ script. debugged known.labels commands e s script limit))

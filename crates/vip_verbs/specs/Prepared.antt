@@ -51,7 +51,7 @@ ended_by limit v = ending_of v.edition (events_to v limit)
 
 -- a run that is shown so up to a limit
 abbrev pub shown_as : ReadyShow → VipState → ℕ → Outcome
-shown_as (show.Trace columns with_screen) v limit = ran limit (run_trace columns with_screen v limit) (ended_by limit v)
+shown_as (show.Trace columns) v limit = ran limit (run_trace columns v limit) (ended_by limit v)
 shown_as show.Pictures v limit = ran limit (run_pictures v limit) (ended_by limit v)
 shown_as (show.Commands commands labels) v limit = debugged_to labels limit (limit_from v.start limit) commands v
 shown_as show.State v limit = saved v.edition limit (events_to v limit)

@@ -22,7 +22,6 @@ use std::alloc::Global;
 use vip_keypad::Script;
 use vip_relation::{ResumeFault, Run, StartFault};
 use vip_show::Profile;
-use vip_text::TraceColumns;
 use vip_tools::{Marks, Refusal, demo_game, game, game_kind, read_debugging, read_keys};
 use vip_words::{RunRequest, Show, Speaks, Start};
 
@@ -145,17 +144,7 @@ fn make_ready<'a>(
     ensures { ShowReady (marked marks) limit (map_show (λ bytes. bytes.items) show.now) result }
 {
     match show {
-        Show::Trace {
-            with_time,
-            with_words,
-            with_screen,
-        } => Ok(ReadyShow::Trace {
-            columns: TraceColumns {
-                time: *with_time,
-                words: *with_words,
-            },
-            with_screen: *with_screen,
-        }),
+        Show::Trace(columns) => Ok(ReadyShow::Trace(*columns)),
         Show::Pictures => Ok(ReadyShow::Pictures),
         Show::Commands { file, echo } => {
             let Marks { names, labels } = marks;

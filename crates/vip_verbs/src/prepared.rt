@@ -47,18 +47,12 @@ pub enum Prepared {
 /// What is shown of a run of the language, with what it needs.
 #[derive(Drop)]
 pub enum ReadyShow {
-    /// A line for each dispatch point behind the start, with these columns; and whether the last screen is shown.
-    Trace {
-        columns: TraceColumns,
-        with_screen: bool,
-    },
+    /// A line for each dispatch point behind the start, and what is asked for besides.
+    Trace(TraceColumns),
     /// Each finished picture.
     Pictures,
     /// The answers to these commands of the debugger, with these labels.
-    Commands {
-        commands: Commands,
-        labels: Labels,
-    },
+    Commands { commands: Commands, labels: Labels },
     /// The last dispatch point, as a state file.
     State,
     /// Where its time goes, by its dispatch points, with the memory for it.

@@ -77,13 +77,7 @@ pub(crate) fn perform_run<O: Sink>(
     ensures { PerformAnswers (shown_as show run limit) (O.meaning out.old) (O.meaning out.new) result }
 {
     match show {
-        ReadyShow::Trace {
-            columns,
-            with_screen,
-        } => ran(
-            limit,
-            show_trace(&mut run, limit, columns, with_screen, out),
-        ),
+        ReadyShow::Trace(columns) => ran(limit, show_trace(&mut run, limit, columns, out)),
         ReadyShow::Pictures => ran(limit, show_pictures(&mut run, limit, out)),
         ReadyShow::Commands { commands, labels } => debug(run, limit, commands, labels, out),
         ReadyShow::State => end_of_saving(limit, show_saved(&mut run, limit, out)),

@@ -1,5 +1,5 @@
 -- What the words of a command line ask for.
-use Rattle.std.specs.Prelude.{ℕ, List, [], ◌∷◌, Bool, false, ◌&&◌, ◌||◌, ◌==◌, if◌then◌else◌, nat_le, nat_lt, length, Option, None, Some, option_map, option_and_then}
+use Rattle.std.specs.Prelude.{ℕ, List, [], ◌∷◌, Bool, ◌&&◌, ◌||◌, ◌==◌, if◌then◌else◌, nat_le, nat_lt, length, Option, None, Some, option_map, option_and_then}
 use Rattle.std.specs.List.{list_any}
 use Rattle.std.specs.Result.{result_ok}
 use Rattle.chip8_lang.specs.declared.view.Edition.{Edition}
@@ -8,6 +8,8 @@ use Rattle.asm_lex.specs.declared.shape.Isa.{Isa}
 use Rattle.asm_lex.specs.declared.shape.Isa.TheVariants.{Cdp1802, Chip8}
 use Rattle.asm_lex.specs.Ranges.{last_of, origin_of}
 use Rattle.vip_byte.specs.Number.{decimal_number, hex_number}
+use Rattle.vip_text.specs.Traces.{plain}
+use Rattle.vip_text.specs.declared.trace.TraceColumns.{TraceColumns}
 use Rattle.vip_words.specs.Request.{Asked, most_cycles, most_moves}
 use Rattle.vip_words.specs.Rules.{Given, Word, given_by}
 use Rattle.vip_words.specs.Table.{is_alone, places_of, row, verb_of}
@@ -128,9 +130,13 @@ either_by file cycles given shown program_shown =
 
 -- ---- the positional words of each verb
 
+-- what the options ask for besides the states of a trace
+abbrev pub columns_by : Given → TraceColumns
+columns_by given = record { time = given.has flag.At; words = given.has flag.Words; screen = given.has flag.Screen }
+
 -- FILE CYCLES, where the file is a game, a saved state or a program
 abbrev pub trace_by : List Word → Given → Option Asked
-trace_by (file ∷ cycles ∷ []) given = either_by file cycles given (show.Trace (given.has flag.At) (given.has flag.Words) (given.has flag.Screen)) program.Trace
+trace_by (file ∷ cycles ∷ []) given = either_by file cycles given (show.Trace (columns_by given)) program.Trace
 trace_by _ given = None
 
 abbrev pub play_by : List Word → Given → Option Asked
@@ -152,7 +158,7 @@ shown_by shown _ given = None
 abbrev pub resume_by : List Word → Given → Option Asked
 resume_by (file ∷ cycles ∷ []) given =
     option_map
-    (λ n. request.Run (record { start = start.State file; keys = given.keys; limit = n; show = show.Trace (given.has flag.At) false false }))
+    (λ n. request.Run (record { start = start.State file; keys = given.keys; limit = n; show = show.Trace (record plain { time = given.has flag.At }) }))
     (cycles_of cycles)
 resume_by _ given = None
 

@@ -30,7 +30,7 @@ module _ {A B : Type 0} (f : A → B) where
   map_start (start.Demo number) = start.Demo number
 
   abbrev pub map_show : Show A → Show B
-  map_show (show.Trace with_time with_words with_screen) = show.Trace with_time with_words with_screen
+  map_show (show.Trace columns) = show.Trace columns
   map_show show.Pictures = show.Pictures
   map_show (show.Commands file echo) = show.Commands (f file) echo
   map_show show.State = show.State

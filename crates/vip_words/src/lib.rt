@@ -1,9 +1,9 @@
-//! What a user asks for: the words of the command line, and the commands of the debugger, read exactly. The crate stands on the kit's `clap`, whose
-//! contracts say which words a simple command takes and what it finds in them, on `vip_byte` for numbers and lines, on `vip_keypad` for the remarks that
-//! commands share with key scripts, on `chip8_lang` for the name of an edition, and on `asm_lex` for that of an instruction set and its addresses;
-//! it reads no file and knows no board. The layer above may rely on `read_words`: it answers exactly the request that the rules of
-//! `specs/Rules.antt`, `specs/Table.antt` and `specs/Asked.antt` read in the words, and refuses exactly the words in which they read none. It may rely on
-//! `read_commands`: its answer is the list of the commands that a text says, in order, or its first fault, exactly as `specs/DebugGrammar.antt` says. Want
+//! What a user asks for: the words of the command line, and the commands of the debugger, read exactly. The crate stands on the kit's `clap`, whose contracts
+//! say which words a simple command takes and what it finds in them, on `vip_byte` for numbers and lines, on `vip_keypad` for the remarks that commands share
+//! with key scripts, on `chip8_lang` for the name of an edition, on `vip_text` for what a trace shows besides the states, and on `asm_lex` for the name of an
+//! instruction set and its addresses; it reads no file and knows no board. The layer above may rely on `read_words`: it answers exactly the request that the
+//! rules of `specs/Rules.antt`, `specs/Table.antt` and `specs/Asked.antt` read in the words, and refuses exactly the words in which they read none. It may rely
+//! on `read_commands`: its answer is the list of the commands that a text says, in order, or its first fault, exactly as `specs/DebugGrammar.antt` says. Want
 //! of memory is the one other answer of each. The rules are this project's profile (`docs/COMMANDS.md`).
 //!
 //! ```text

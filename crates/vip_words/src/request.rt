@@ -1,7 +1,7 @@
 //! What the words of a command line ask for.
 
 ghost use Rattle.std.specs.Prelude.{◌≡◌, IfOk, IsErrOf, None, Some, map, option_map, string_bytes};
-ghost use Rattle.vip_words.specs.Asked.{address_or, asked_by, asked_of_verb, built_in_by, code_by, cycles_of, edition_by, either_by, entry_of, is_mixed, is_program, isa_by, moves_of, name_of, number_of, place_of, program_by, register_of, run_by, seed_of, start_by};
+ghost use Rattle.vip_words.specs.Asked.{address_or, asked_by, asked_of_verb, built_in_by, code_by, columns_by, cycles_of, edition_by, either_by, entry_of, is_mixed, is_program, isa_by, moves_of, name_of, number_of, place_of, program_by, register_of, run_by, seed_of, start_by};
 ghost use Rattle.vip_words.specs.Given.{seen_given};
 ghost use Rattle.vip_words.specs.Request.{asked_of, code_of, program_show_of, show_of, start_of, InRange};
 ghost use Rattle.vip_words.specs.declared.table.Verb.TheVariants as verb;
@@ -15,6 +15,7 @@ use chip8_lang::Edition;
 use std::alloc::{AllocError, Global};
 use std::marker::Model;
 use vip_byte::{MOST_CYCLE, read_decimal, read_hex};
+use vip_text::{PLAIN, TraceColumns};
 
 /// What the words of a command line ask for. A file is an `N`: its name, which is the word itself, or, once it was read, its content.
 #[derive(Drop)]
@@ -157,19 +158,12 @@ pub enum Start<N> {
 /// What is shown of a run of the language.
 #[derive(Drop)]
 pub enum Show<N> {
-    /// A line for each dispatch point behind the start; whether it says its cycle, and its opcode in words; and whether the last screen is shown.
-    Trace {
-        with_time: bool,
-        with_words: bool,
-        with_screen: bool,
-    },
+    /// A line for each dispatch point behind the start, and what is asked for besides.
+    Trace(TraceColumns),
     /// Each finished picture.
     Pictures,
     /// The answers to the debugger's commands; and whether each command stands before its answer.
-    Commands {
-        file: N,
-        echo: bool,
-    },
+    Commands { file: N, echo: bool },
     /// The last dispatch point, as a state file.
     State,
     /// Where its time goes, by its dispatch points.
@@ -456,17 +450,24 @@ fn either_request<'a>(
     }
 }
 
+/// What the options ask for besides the states of a trace.
+fn columns_by(given: &Given) -> TraceColumns
+    ensures { result ≡ columns_by (seen_given given.now) }
+{
+    TraceColumns {
+        time: given.has(Flag::At),
+        words: given.has(Flag::Words),
+        screen: given.has(Flag::Screen),
+    }
+}
+
 fn trace_request<'a>(given: &Given<'a>) -> Option<Request<&'a str>>
     ensures { option_map asked_of result ≡ asked_of_verb verb.Trace (seen_given given.now) }
 {
     let Positional::Two(file, cycles) = given.positional else {
         return None;
     };
-    let show = Show::Trace {
-        with_time: given.has(Flag::At),
-        with_words: given.has(Flag::Words),
-        with_screen: given.has(Flag::Screen),
-    };
+    let show = Show::Trace(columns_by(given));
     either_request(file, cycles, given, show, ProgramShow::Trace)
 }
 
@@ -527,11 +528,10 @@ fn resume_request<'a>(given: &Given<'a>) -> Option<Request<&'a str>>
         start: Start::State(state),
         keys: given.keys,
         limit,
-        show: Show::Trace {
-            with_time: given.has(Flag::At),
-            with_words: false,
-            with_screen: false,
-        },
+        show: Show::Trace(TraceColumns {
+            time: given.has(Flag::At),
+            ..PLAIN
+        }),
     }))
 }
 

@@ -6,8 +6,7 @@ unfolding trace_line
 returns c =
     rw (
       c.put-2.ensures.items,
-      c.put_comment.ensures.items,
-      c.put_time.ensures.items,
+      c.put_columns.ensures.items,
       c.put_words.ensures.items,
       c.put.ensures.items,
       c.put_timers.ensures.items,
