@@ -1,4 +1,5 @@
 pub mod Asked
+pub mod Arguments
 pub mod Command
 pub mod Given
 pub mod Request

@@ -1,60 +1,78 @@
 //! The command that `clap` gets for a verb.
 
-ghost use Rattle.std.specs.Prelude.{◌≡◌, ◌≤◌, ◌∷◌, [], IfOk, false};
+ghost use Rattle.std.specs.Prelude.{◌≡◌, ◌≤◌, IfOk, false};
 ghost use Rattle.clap.specs.Words.{app_of, rule_of};
-ghost use Rattle.vip_words.specs.Command.{app_with, command_app, keys_rule, place_rule, switch_rule};
+ghost use Rattle.vip_words.specs.Arguments.{argument_rule};
+ghost use Rattle.vip_words.specs.Command.{command_app};
 
-use crate::flag::FLAGS;
+use crate::flag::Flag;
 use clap::{Arg, ArgAction, Command};
 use std::alloc::{AllocError, Global};
 
 /// The names under which `clap` keeps the positional words, in order.
-pub const PLACES: [&str; 4] = ["first", "second", "third", "fourth"];
+pub const FIRST: &str = "first";
 
-// A positional word, which may not be left out.
-fn make_place<'a>(alloc: Global, name: &'a str) -> Arg<'a>
-    ensures rule { rule_of result ≡ place_rule name.entry.now }
-    ensures own { result.global ≡ false }
-{
-    Arg::new(alloc, name).required(true).action(ArgAction::Set)
+pub const SECOND: &str = "second";
+
+pub const THIRD: &str = "third";
+
+pub const FOURTH: &str = "fourth";
+
+/// An argument of a command.
+#[derive(Clone, Copy)]
+enum Argument {
+    /// The option `--keys`, which takes the next word.
+    Keys,
+    /// An option that takes no word.
+    Switch(Flag),
+    /// A positional word of this name, which may not be left out.
+    Place(&'static str),
 }
 
-// The option `--keys`, which takes the next word.
-fn make_keys<'a>(alloc: Global) -> Arg<'a>
-    ensures rule { rule_of result ≡ keys_rule }
-    ensures own { result.global ≡ false }
-{
-    Arg::new(alloc, "keys").long("keys").action(ArgAction::Set)
-}
+/// Every option of the program, and behind them the positional words.
+const ARGUMENTS: [Argument; 19] = [
+    Argument::Keys,
+    Argument::Switch(Flag::At),
+    Argument::Switch(Flag::Screen),
+    Argument::Switch(Flag::Words),
+    Argument::Switch(Flag::Tall),
+    Argument::Switch(Flag::State),
+    Argument::Switch(Flag::Raw),
+    Argument::Switch(Flag::Chip8),
+    Argument::Switch(Flag::Asm),
+    Argument::Switch(Flag::Echo),
+    Argument::Switch(Flag::Exits),
+    Argument::Switch(Flag::Rom),
+    Argument::Switch(Flag::Ram),
+    Argument::Switch(Flag::Sender),
+    Argument::Switch(Flag::Receiver),
+    Argument::Place(FIRST),
+    Argument::Place(SECOND),
+    Argument::Place(THIRD),
+    Argument::Place(FOURTH),
+];
 
-// An option that takes no word.
-fn make_flag<'a>(alloc: Global, name: &'a str) -> Arg<'a>
-    ensures rule { rule_of result ≡ switch_rule name.entry.now }
-    ensures own { result.global ≡ false }
-{
-    Arg::new(alloc, name).long(name).action(ArgAction::SetTrue)
-}
+/// How many of the arguments are options.
+const OPTIONS: usize = 15;
 
-// The command of a verb with the option `--keys` alone. It has no help and no version flag.
-fn make_bare<'a>(alloc: Global, verb: &'a str) -> Result<Command<'a>, AllocError>
-    ensures { IfOk result (λ command. app_of command ≡ app_with verb.entry.now (keys_rule ∷ [])) }
-{
-    Command::new(alloc, verb)
-        .disable_help_flag(true)
-        .disable_version_flag(true)
-        .arg(make_keys(alloc))
-}
-
-// The command of a verb with every option of the program and no positional word.
-fn make_options<'a>(alloc: Global, verb: &'a str) -> Result<Command<'a>, AllocError>
-    ensures { IfOk result (λ command. app_of command ≡ command_app verb.entry.now 0) }
-{
-    let mut command = make_bare(alloc, verb)?;
-    for flag in &FLAGS {
-        let name: &'a str = flag.name();
-        command = command.arg(make_flag(alloc, name))?;
+impl Argument {
+    // The argument as `clap` gets it.
+    fn make<'a>(self, alloc: Global) -> Arg<'a>
+        ensures rule { rule_of result ≡ argument_rule self }
+        ensures own { result.global ≡ false }
+    {
+        match self {
+            Argument::Keys => Arg::new(alloc, "keys").long("keys").action(ArgAction::Set),
+            Argument::Switch(flag) => {
+                let name: &'a str = flag.name();
+                Arg::new(alloc, name).long(name).action(ArgAction::SetTrue)
+            }
+            Argument::Place(name) => {
+                let name: &'a str = name;
+                Arg::new(alloc, name).required(true).action(ArgAction::Set)
+            }
+        }
     }
-    Ok(command)
 }
 
 /// The command of a verb with so many positional words. It has every option of the program, so that one command serves all verbs with
@@ -67,9 +85,11 @@ pub fn make_command<'a>(
     requires { places ≤ 4 }
     ensures { IfOk result (λ command. app_of command ≡ command_app verb.entry.now places) }
 {
-    let mut command = make_options(alloc, verb)?;
-    for place in &PLACES[..places] {
-        command = command.arg(make_place(alloc, place))?;
+    let mut command = Command::new(alloc, verb)
+        .disable_help_flag(true)
+        .disable_version_flag(true);
+    for argument in &ARGUMENTS[..OPTIONS + places] {
+        command = command.arg(argument.make(alloc))?;
     }
     Ok(command)
 }

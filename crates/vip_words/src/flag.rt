@@ -22,24 +22,6 @@ pub enum Flag {
     Receiver,
 }
 
-/// Every flag, in order.
-pub const FLAGS: [Flag; 14] = [
-    Flag::At,
-    Flag::Screen,
-    Flag::Words,
-    Flag::Tall,
-    Flag::State,
-    Flag::Raw,
-    Flag::Chip8,
-    Flag::Asm,
-    Flag::Echo,
-    Flag::Exits,
-    Flag::Rom,
-    Flag::Ram,
-    Flag::Sender,
-    Flag::Receiver,
-];
-
 impl Flag {
     /// Its name, which the user writes behind `--`.
     pub fn name(self) -> &'static str

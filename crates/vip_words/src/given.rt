@@ -7,7 +7,7 @@ ghost use Rattle.vip_words.specs.Command.{command_faults, command_rows};
 ghost use Rattle.vip_words.specs.Given.{given_of, positional_of, seen_given, words_in};
 ghost use Rattle.vip_words.specs.Rules.{is_known, is_plain};
 
-use crate::command::{PLACES, make_command};
+use crate::command::{FIRST, FOURTH, SECOND, THIRD, make_command};
 use crate::flag::Flag;
 use crate::table::Usage;
 use clap::ArgMatches;
@@ -125,16 +125,16 @@ fn positional_of<'a>(matches: &ArgMatches<'a>) -> Positional<'a>
         (first_value (found_of matches.now) (codes "third"))
         (first_value (found_of matches.now) (codes "fourth")) }
 {
-    let Some(first) = matches.get_str(PLACES[0]) else {
+    let Some(first) = matches.get_str(FIRST) else {
         return Positional::Empty;
     };
-    let Some(second) = matches.get_str(PLACES[1]) else {
+    let Some(second) = matches.get_str(SECOND) else {
         return Positional::One(first);
     };
-    let Some(third) = matches.get_str(PLACES[2]) else {
+    let Some(third) = matches.get_str(THIRD) else {
         return Positional::Two(first, second);
     };
-    match matches.get_str(PLACES[3]) {
+    match matches.get_str(FOURTH) {
         None => Positional::Three(first, second, third),
         Some(fourth) => Positional::Four(first, second, third, fourth),
     }

@@ -33,7 +33,7 @@
 //! to it. So a verb is added by its row in the two tables (`src/table.rt`, `specs/Table.antt`), its variant and what its words ask for, which mostly
 //! is a start and a show that are there; an option of a verb, by its name in the verb's rows. The rows also have what is said of a verb, and beside them
 //! stands what is said of an option: the pages of `help` are made of both. A new option that takes no word is one more flag (`src/flag.rt`,
-//! `specs/Rules.antt`): what the words give is a set of flags.
+//! `specs/Rules.antt`) and one more argument of the command (`src/command.rt`): what the words give is a set of flags.
 #![tactic(auto)]
 
 mod command;
