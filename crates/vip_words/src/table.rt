@@ -165,26 +165,19 @@ impl Verb {
         ensures few { length result.now ≤ 4 }
     {
         match self {
-            Verb::Trace => &["FILE", "CYCLES"],
-            Verb::Play => &["FILE", "CYCLES"],
+            Verb::Trace | Verb::Play | Verb::Save | Verb::Profile => &["FILE", "CYCLES"],
             Verb::Debug => &["FILE", "CYCLES", "COMMANDS"],
-            Verb::Save => &["FILE", "CYCLES"],
-            Verb::Profile => &["FILE", "CYCLES"],
             Verb::Resume => &["STATE", "CYCLES"],
             Verb::Demo => &["NUMBER", "CYCLES"],
             Verb::Link => &["FILE", "MOVES", "NUMBER"],
-            Verb::Asm => &["FILE"],
-            Verb::Check => &["FILE"],
-            Verb::List => &["FILE"],
+            Verb::Asm | Verb::Check | Verb::List => &["FILE"],
             Verb::Dis => &["FILE", "AT"],
-            Verb::Source => &[],
-            Verb::Bounds => &[],
             Verb::Cycles => &["FILE", "CERT"],
             Verb::Timing => &["FILE", "ENTRY", "P", "K"],
             Verb::Safe => &["GAME", "CERT"],
             Verb::Certify => &["GAME"],
             Verb::Help => &["VERB"],
-            Verb::Version => &[],
+            Verb::Source | Verb::Bounds | Verb::Version => &[],
         }
     }
 
@@ -209,23 +202,15 @@ impl Verb {
             Verb::Debug => &[
                 "--keys", "--tall", "--state", "--asm", "--echo", "--rom", "--ram",
             ],
-            Verb::Save => &["--keys", "--tall", "--state", "--asm"],
-            Verb::Profile => &["--keys", "--tall", "--state", "--asm"],
+            Verb::Save | Verb::Profile => &["--keys", "--tall", "--state", "--asm"],
             Verb::Resume => &["--keys", "--at"],
-            Verb::Demo => &[],
-            Verb::Link => &[],
             Verb::Asm => &["--raw", "--chip8"],
-            Verb::Check => &["--chip8"],
-            Verb::List => &["--chip8"],
-            Verb::Dis => &["--chip8"],
+            Verb::Check | Verb::List | Verb::Dis => &["--chip8"],
             Verb::Source => &["--tall", "--sender", "--receiver"],
-            Verb::Bounds => &[],
             Verb::Cycles => &["--exits"],
-            Verb::Timing => &[],
-            Verb::Safe => &["--tall", "--asm"],
-            Verb::Certify => &["--tall", "--asm"],
-            Verb::Help => &[],
-            Verb::Version => &[],
+            Verb::Safe | Verb::Certify => &["--tall", "--asm"],
+            Verb::Demo | Verb::Link | Verb::Bounds | Verb::Timing | Verb::Help | Verb::Version =>
+                &[],
         }
     }
 
@@ -304,12 +289,9 @@ impl Verb {
             Verb::Dis => "SOURCES.md, The disassembly",
             Verb::Source => "MACHINE.md, The ROM; Two boards",
             Verb::Bounds => "MACHINE.md, Bounds",
-            Verb::Cycles => "SOURCES.md, A cycle certificate",
-            Verb::Timing => "SOURCES.md, A cycle certificate",
-            Verb::Safe => "SOURCES.md, A certificate of a game",
-            Verb::Certify => "SOURCES.md, A certificate of a game",
-            Verb::Help => "COMMANDS.md, The words",
-            Verb::Version => "COMMANDS.md, The words",
+            Verb::Cycles | Verb::Timing => "SOURCES.md, A cycle certificate",
+            Verb::Safe | Verb::Certify => "SOURCES.md, A certificate of a game",
+            Verb::Help | Verb::Version => "COMMANDS.md, The words",
         }
     }
 }
