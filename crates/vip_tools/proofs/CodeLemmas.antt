@@ -11,38 +11,19 @@ use Rattle.asm_lex.specs.Names.{number_from, value_in}
 use Rattle.asm_lex.specs.declared.shape.Isa.{Isa}
 use Rattle.asm_listing.specs.Raw.{IsRaw, IsSpan, byte_at, bytes_from, span_bytes}
 use Rattle.chip8_lang.specs.declared.view.Edition.{Edition}
-use Rattle.vip_words.specs.declared.request.Code.{Code}
-use Rattle.vip_words.specs.declared.request.Code.TheVariants.{Bytes, Source as Text}
+use Rattle.vip_words.specs.declared.request.Code.TheVariants.{Source as Text}
 use Rattle.vip_words.specs.declared.request.Memory.{Memory}
 use Rattle.vip_tools.specs.declared.refusal.Misfit.TheVariants.{Stray}
 use Rattle.vip_tools.specs.declared.refusal.Refusal.{Refusal}
 use Rattle.vip_tools.specs.declared.refusal.Refusal.TheVariants.{Misfit, NoMemory}
 use Rattle.vip_tools.specs.Certificates.{made_byte, source_byte}
-use Rattle.vip_tools.specs.Code.{AssemblyComes, FitComes, GameAnswers, GameComes, ImageAnswers, ImageComes, IsRawGame, IsShort, LaidComes, MadeGameAnswers, MadeImageAnswers, is_memory, is_stray, known_of, marked}
-use Rattle.vip_tools.specs.Judged.{RefusedBy, cause_of}
+use Rattle.vip_tools.specs.Code.{FitComes, GameAnswers, ImageAnswers, IsRawGame, MadeGameAnswers, MadeImageAnswers, is_memory, is_stray, known_of, marked}
 use Rattle.vip_tools.specs.Opening.{SourceComes}
 use Rattle.vip_tools.specs.declared.code.Marks.{Marks}
-use Rattle.vip_tools.specs.declared.refusal.Kind.{Kind}
-use Rattle.vip_tools.specs.Files.{IsFit, code_file, ram_size, rom_size}
+use Rattle.vip_tools.specs.Files.{ram_size, rom_size}
 use Rattle.vip_tools.specs.declared.code.Image.{Image}
 use Rattle.vip_tools.proofs.CertificateLemmas.{length-bytes, same_bytes}
-use Rattle.vip_tools.proofs.JudgedLemmas.{by-each, refused-behind, refused-first}
-
--- ---- a source that isn't assembled
-
-pub unassembled-game : (e : Edition) (code : Code (List ℕ)) (refusal : Refusal) → RefusedBy (AssemblyComes Chip8 code) refusal → RefusedBy (GameComes e code) refusal
-unassembled-game e (Bytes file) refusal by = by-each (λ (made : Made). ⊥) (GameComes e (Bytes file)) (cause_of refusal) by
-unassembled-game e (Text text) refusal by = refused-first (SourceComes Chip8 text) (FitComes e) refusal by
-
-pub unassembled-image : (memory : Memory) (code : Code (List ℕ)) (refusal : Refusal) → RefusedBy (AssemblyComes Cdp1802 code) refusal
-    → RefusedBy (ImageComes memory code) refusal
-unassembled-image memory (Bytes file) refusal by = by-each (λ (made : Made). ⊥) (ImageComes memory (Bytes file)) (cause_of refusal) by
-unassembled-image memory (Text text) refusal by = refused-first (SourceComes Cdp1802 text) (λ made. LaidComes text) refusal by
-
--- its source fits where it does
-pub code-short : (kind : Kind) (most : ℕ) (code : Code (List ℕ)) → IsFit (code_file kind most code) → IsShort code
-code-short kind most (Bytes file) fit = tt
-code-short kind most (Text text) fit = fit.fits
+use Rattle.vip_tools.proofs.JudgedLemmas.{refused-behind}
 
 -- the marks of an assembly are those of its source
 pub made-marks : (isa : Isa) (text : List ℕ) (made : Made) → IsAssembly isa (source_lines text) made → (marks : Marks) → marks.names ≡ made.names

@@ -15,11 +15,13 @@ use Rattle.vip_words.specs.declared.request.Memory.{Memory}
 use Rattle.vip_words.specs.declared.request.Memory.TheVariants.{Rom, Ram}
 use Rattle.vip_tools.specs.Certificates as bytes
 use Rattle.vip_tools.specs.Certificates.{bytes_at, rom_in, source_byte}
-use Rattle.vip_tools.specs.Files.{most_text, ram_size, rom_size}
-use Rattle.vip_tools.specs.Judged.{AnswersAs, Judged, RefusedBy, bind, each, judged, only}
+use Rattle.vip_tools.specs.Files.{ram_size, rom_size}
+use Rattle.vip_tools.specs.Judged.{AnswersAs, Judged, RefusedBy, bind, judged, only}
 use Rattle.vip_tools.specs.Judged.Verdict.{Given}
 use Rattle.vip_tools.specs.Opening.{SourceComes}
 use Rattle.vip_tools.specs.declared.code.Image.{Image}
+use Rattle.vip_tools.specs.declared.code.MarkedGame.{MarkedGame}
+use Rattle.vip_tools.specs.declared.code.MarkedImage.{MarkedImage}
 use Rattle.vip_tools.specs.declared.code.Marks.{Marks}
 use Rattle.vip_tools.specs.declared.refusal.Misfit.TheVariants.{Game, Stray}
 use Rattle.vip_tools.specs.declared.refusal.Refusal.{Refusal}
@@ -115,23 +117,9 @@ known_of isa (Bytes bytes) = nothing_known
 known_of isa (Source text) =
     record { names = number_named (all_names isa (source_lines text)); labels = labels_of isa (source_lines text) }
 
--- a source has so many bytes at most
-abbrev pub IsShort : Code (List ℕ) → Type 0
-IsShort (Bytes bytes) = Unit {0}
-IsShort (Source text) = length text ≤ most_text
-
 -- what the marks of a source say
 abbrev pub marked : Marks → Known
 marked marks = record { names = number_named (value_in marks.names); labels = marks.labels }
-
--- the assembly of code that is a source
-abbrev pub AssemblyComes : Isa → Code (List ℕ) → Judged Made
-AssemblyComes isa (Bytes bytes) = each (λ made. ⊥)
-AssemblyComes isa (Source text) = SourceComes isa text
-
-abbrev pub MarksAnswer : Isa → Code (List ℕ) → Result Marks Refusal → Type 0
-MarksAnswer isa code (Ok marks) = marked marks ≡ known_of isa code
-MarksAnswer isa code (Err refusal) = RefusedBy (AssemblyComes isa code) refusal
 
 -- ---- what the calls answer
 
@@ -149,9 +137,17 @@ pub record FitsMemories (image : Image) : Type 0 where
   pub rom : length image.rom.items ≤ rom_size
   pub ram : length image.ram.items ≤ ram_size
 
+abbrev pub MarkedGameAnswers : Edition → Code (List ℕ) → Result MarkedGame Refusal → Type 0
+MarkedGameAnswers e code (Ok made) = GameAnswers e code (Ok made.game) × (marked made.marks ≡ known_of Chip8 code)
+MarkedGameAnswers e code (Err refusal) = RefusedBy (GameComes e code) refusal
+
 abbrev pub ImageAnswers : Memory → Code (List ℕ) → Result Image Refusal → Type 0
 ImageAnswers memory code (Ok image) = ImageComes memory code (Given (image.rom.items, image.ram.items)) × FitsMemories image
 ImageAnswers memory code (Err refusal) = RefusedBy (ImageComes memory code) refusal
+
+abbrev pub MarkedImageAnswers : Memory → Code (List ℕ) → Result MarkedImage Refusal → Type 0
+MarkedImageAnswers memory code (Ok made) = ImageAnswers memory code (Ok made.image) × (marked made.marks ≡ known_of Cdp1802 code)
+MarkedImageAnswers memory code (Err refusal) = RefusedBy (ImageComes memory code) refusal
 
 -- both memories of an assembly
 abbrev pub MadeImageAnswers : bytes.Bytes → Result Image Refusal → Type 0

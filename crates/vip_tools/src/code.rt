@@ -4,7 +4,7 @@
 ghost use Rattle.std.specs.Prelude.{◌≡◌, ◌≤◌, ◌+◌, length};
 ghost use Rattle.vip_words.specs.Request.{map_code};
 ghost use Rattle.vip_tools.specs.Certificates.{bytes_at, made_byte};
-ghost use Rattle.vip_tools.specs.Code.{GameAnswers, ImageAnswers, IsStray, MadeGameAnswers, MadeImageAnswers, is_memory};
+ghost use Rattle.vip_tools.specs.Code.{GameAnswers, IsStray, MadeGameAnswers, MadeImageAnswers, MarkedGameAnswers, MarkedImageAnswers, in_ram, in_rom, is_memory};
 ghost use Rattle.vip_tools.specs.Files.{game_code, program_code, IsFit};
 
 use crate::Refusal;
@@ -15,7 +15,7 @@ use asm_core::{Assembly, Labels};
 use asm_lex::{Isa, Symbols};
 use asm_listing::raw;
 use chip8_lang::Edition;
-use std::alloc::Global;
+use std::alloc::{AllocError, Global};
 use vip_words::{Code, Memory};
 
 /// The first address of the ROM.
@@ -39,9 +39,11 @@ pub struct Marks {
 }
 
 impl Marks {
-    ghost use Rattle.std.specs.Prelude.{◌≡◌};
-    ghost use Rattle.vip_words.specs.Request.{map_code};
-    ghost use Rattle.vip_tools.specs.Code.{IsShort, MarksAnswer, marked, nothing_known};
+    ghost use Rattle.std.specs.Prelude.{◌≡◌, IfOk};
+    ghost use Rattle.asm_core.specs.Made.{IsAssembly};
+    ghost use Rattle.asm_core.specs.Sources.{source_lines};
+    ghost use Rattle.vip_words.specs.declared.request.Code.TheVariants.{Source};
+    ghost use Rattle.vip_tools.specs.Code.{known_of, marked, nothing_known};
 
     /// Nothing is known. It takes no memory.
     pub fn none(alloc: Global) -> Marks
@@ -53,23 +55,31 @@ impl Marks {
         }
     }
 
-    /// What is known of code, whose source is one in the words of an instruction set. Of bytes that is nothing.
-    pub fn of<'a>(alloc: Global, isa: Isa, code: &Code<Vec<u8>>) -> Result<Marks, Refusal<'a>>
-        requires { IsShort (map_code (λ bytes. bytes.items) code.now) }
-        ensures { MarksAnswer isa (map_code (λ bytes. bytes.items) code.now) result }
+    /// What is known of a source in the words of an instruction set, by its assembly.
+    fn of(alloc: Global, isa: Isa, text: &[u8], made: Assembly) -> Result<Marks, AllocError>
+        requires { IsAssembly isa (source_lines text.now) made }
+        ensures { IfOk result (λ marks. marked marks ≡ known_of isa (Source text.now)) }
     {
-        match code {
-            Code::Bytes(_) => Ok(Marks::none(alloc)),
-            Code::Source(text) => {
-                let made = make_assembly(alloc, isa, text.as_slice())?;
-                let labels = Labels::of(alloc, text.as_slice(), &made)?;
-                Ok(Marks {
-                    names: made.into_names(),
-                    labels,
-                })
-            }
-        }
+        let labels = Labels::of(alloc, text, &made)?;
+        Ok(Marks {
+            names: made.into_names(),
+            labels,
+        })
     }
+}
+
+/// A game, with what is known of its code besides its bytes.
+#[derive(Drop)]
+pub struct MarkedGame {
+    pub game: Vec<u8>,
+    pub marks: Marks,
+}
+
+/// A program, with what is known of its code besides its bytes.
+#[derive(Drop)]
+pub struct MarkedImage {
+    pub image: Image,
+    pub marks: Marks,
 }
 
 /// Whether a memory of the board has this address: the RAM below 1000, and the ROM from 8000 to 87FF.
@@ -149,26 +159,66 @@ pub fn game<'a>(
     }
 }
 
-/// The bytes of a program by its code. Those of a file stand in the memory in which it starts; a source is one of the CDP1802, and its bytes stand at their own
-/// addresses.
-pub fn program<'a>(alloc: Global, memory: Memory, code: Code<Vec<u8>>) -> Result<Image, Refusal<'a>>
-    requires { IsFit (program_code memory (map_code (λ bytes. bytes.items) code)) }
-    ensures { ImageAnswers memory (map_code (λ bytes. bytes.items) code) result }
+/// The bytes of a game by its code, with what is known of that. A source is assembled once for both.
+pub fn marked_game<'a>(
+    alloc: Global,
+    edition: Edition,
+    code: Code<Vec<u8>>,
+) -> Result<MarkedGame, Refusal<'a>>
+    requires { IsFit (game_code edition (map_code (λ bytes. bytes.items) code)) }
+    ensures { MarkedGameAnswers edition (map_code (λ bytes. bytes.items) code) result }
 {
     match code {
-        Code::Bytes(bytes) => match memory {
-            Memory::Rom => Ok(Image {
-                rom: bytes,
-                ram: Vec::new(alloc),
-            }),
-            Memory::Ram => Ok(Image {
-                rom: Vec::new(alloc),
-                ram: bytes,
-            }),
+        Code::Bytes(game) => Ok(MarkedGame {
+            game,
+            marks: Marks::none(alloc),
+        }),
+        Code::Source(text) => {
+            let made = make_assembly(alloc, Isa::Chip8, text.as_slice())?;
+            let game = raw_game(alloc, edition, &made)?;
+            let marks = Marks::of(alloc, Isa::Chip8, text.as_slice(), made)?;
+            Ok(MarkedGame { game, marks })
+        }
+    }
+}
+
+/// The bytes of a program's file, which stand in the memory in which it starts.
+fn image_of(alloc: Global, memory: Memory, program: Vec<u8>) -> Image
+    ensures rom { result.rom.items ≡ in_rom memory program.items }
+    ensures ram { result.ram.items ≡ in_ram memory program.items }
+{
+    match memory {
+        Memory::Rom => Image {
+            rom: program,
+            ram: Vec::new(alloc),
         },
+        Memory::Ram => Image {
+            rom: Vec::new(alloc),
+            ram: program,
+        },
+    }
+}
+
+/// The bytes of a program by its code, with what is known of that. A source is one of the CDP1802, whose bytes stand at their own addresses, and is assembled once
+/// for both.
+pub fn marked_program<'a>(
+    alloc: Global,
+    memory: Memory,
+    code: Code<Vec<u8>>,
+) -> Result<MarkedImage, Refusal<'a>>
+    requires { IsFit (program_code memory (map_code (λ bytes. bytes.items) code)) }
+    ensures { MarkedImageAnswers memory (map_code (λ bytes. bytes.items) code) result }
+{
+    match code {
+        Code::Bytes(program) => Ok(MarkedImage {
+            image: image_of(alloc, memory, program),
+            marks: Marks::none(alloc),
+        }),
         Code::Source(text) => {
             let made = make_assembly(alloc, Isa::Cdp1802, text.as_slice())?;
-            lay_out_both(alloc, &made)
+            let image = lay_out_both(alloc, &made)?;
+            let marks = Marks::of(alloc, Isa::Cdp1802, text.as_slice(), made)?;
+            Ok(MarkedImage { image, marks })
         }
     }
 }

@@ -30,7 +30,7 @@ mod status;
 mod tools;
 
 pub use certificates::{certify, cycles, safe, timing};
-pub use code::{Image, Marks, game, program};
+pub use code::{Image, MarkedGame, MarkedImage, Marks, game, marked_game, marked_program};
 pub use demo::demo_game;
 pub use ended::Ended;
 pub use fault::PerformFault;

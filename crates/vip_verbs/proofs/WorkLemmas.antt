@@ -39,7 +39,6 @@ use Rattle.vip_tools.specs.Report.{end_report}
 use Rattle.vip_tools.specs.Status.{end_status}
 use Rattle.vip_text.specs.declared.ending.RunEnd.{RunEnd}
 use Rattle.vip_tools.specs.Files.{FilesRefused, IsLoaded, Loaded, files_of, needed}
-use Rattle.vip_tools.proofs.CodeLemmas.{unassembled-game}
 use Rattle.vip_tools.proofs.JudgedLemmas.{behind, by-each, by-tail, refused-behind, refused-first, refused-so}
 use Rattle.vip_tools.proofs.FilesLemmas.{reads-all}
 use Rattle.vip_tools.specs.Judged.{By, Cause, Judged, RefusedBy, bind, cause_of, each, only}
@@ -47,16 +46,14 @@ use Rattle.vip_tools.specs.Judged.Cause.{Elsewhere, Memory, Fault, Nothing}
 use Rattle.vip_tools.specs.Judged.Verdict.{Given}
 use Rattle.vip_tools.specs.Opening.{CommandsCome, ScriptComes}
 use Rattle.vip_words.specs.declared.debug_commands.Speaks.TheVariants.{Chip8}
-use Rattle.asm_lex.specs.declared.shape.Isa.TheVariants.{Chip8 as Chip8Words}
 use Rattle.vip_words.specs.declared.request.Code.{Code}
-use Rattle.vip_tools.specs.declared.code.Marks.{Marks}
-use Rattle.vip_tools.specs.Code.{GameComes, Known, MarksAnswer}
+use Rattle.vip_tools.specs.Code.{GameComes, Known}
 use Rattle.vip_tools.specs.Outcome.{Ends, Outcome, Output, Shown}
 use Rattle.vip_tools.specs.Sources.{CheckComes}
 use Rattle.vip_tools.specs.Work.{CheckAnswers, TextAnswers}
 use Rattle.asm_lex.specs.declared.shape.Isa.{Isa}
 use Rattle.asm_listing.specs.declared.report_text.CheckText.{CheckText}
-use Rattle.vip_verbs.specs.Opening.{BeginComes, BeginsAt, CommandsIn, IsBeginning as IsBegin, IsShow, IsStarted, IsWhole, MarksAtStart, Started}
+use Rattle.vip_verbs.specs.Opening.{BeginComes, BeginsAt, CommandsIn, IsBeginning as IsBegin, IsShow, IsStarted, IsWhole, Started}
 use Rattle.vip_verbs.specs.Outcome.{HasOutcome, RomComes, RunStart, RunTo, ShowComes, StartComes, debug_ending, debugged, debugged_to, limit_from, ran, saved_as, stopped_by}
 use Rattle.vip_verbs.specs.Prepared.{DebugEnds, IsBeginning, NotOpened, OpenAnswers, PerformAnswers, PrepareAnswers, ended_by, checked, run_ended, save_ended, shown_as, texted}
 use Rattle.vip_verbs.specs.declared.opening.Beginning.{Beginning}
@@ -107,11 +104,6 @@ game-begins edition code game comes s is = record { value = game.items; gives = 
 pub refused-game : (edition : Edition) (code : Code (List ℕ)) (refusal : Refusal) → RefusedBy (GameComes edition code) refusal
     → RefusedBy (StartComes (asking.Game code edition)) refusal
 refused-game edition code = refused-first (GameComes edition code) (game_start edition)
-
--- what is known of its code, or that there is none
-pub game-marks : (edition : Edition) (code : Code (List ℕ)) (r : Result Marks Refusal) → MarksAnswer Chip8Words code r → MarksAtStart (asking.Game code edition) r
-game-marks edition code (Ok marks) answer = answer
-game-marks edition code (Err refusal) answer = refused-game edition code refusal (unassembled-game edition code refusal answer)
 
 -- ---- its script, and what is shown of it
 

@@ -16,7 +16,6 @@ use Rattle.vip_words.specs.declared.request.Show.{Show}
 use Rattle.vip_words.specs.declared.request.Show.TheVariants as show
 use Rattle.vip_words.specs.declared.request.Start as asked
 use Rattle.vip_tools.specs.Code.{Known, marked}
-use Rattle.vip_tools.specs.declared.code.Marks.{Marks}
 use Rattle.vip_tools.specs.Files.{IsRight}
 use Rattle.vip_tools.specs.declared.refusal.Kind.TheVariants.{State}
 use Rattle.vip_tools.specs.declared.refusal.Refusal.{Refusal}
@@ -27,6 +26,7 @@ use Rattle.vip_show.specs.declared.profile.Profile.{Profile}
 use Rattle.vip_verbs.specs.Outcome.{IsSavedIn, RomComes, RunStart, StartComes, known_in}
 use Rattle.vip_verbs.specs.declared.opening.Beginning.{Beginning}
 use Rattle.vip_verbs.specs.declared.opening.Beginning.TheVariants.{Reset, Saved}
+use Rattle.vip_verbs.specs.declared.opening.Opened.{Opened}
 use Rattle.vip_verbs.specs.declared.prepared.ReadyProgramShow.{ReadyProgramShow}
 use Rattle.vip_verbs.specs.declared.prepared.ReadyProgramShow.TheVariants as programs
 use Rattle.vip_verbs.specs.declared.prepared.ReadyShow.{ReadyShow}
@@ -68,13 +68,10 @@ IsWhole (Saved file) = IsRight State file.items
 abbrev pub IsBeginning : asked.Start (List ℕ) → Beginning → Type 0
 IsBeginning start beginning = (s : RunStart) → IsAt beginning s → StartComes start (Given s)
 
-abbrev pub BeginningAnswers : asked.Start (List ℕ) → Result Beginning Refusal → Type 0
-BeginningAnswers start (Ok beginning) = IsBeginning start beginning × IsWhole beginning
-BeginningAnswers start (Err refusal) = RefusedBy (StartComes start) refusal
-
-abbrev pub MarksAtStart : asked.Start (List ℕ) → Result Marks Refusal → Type 0
-MarksAtStart start (Ok marks) = marked marks ≡ known_in start
-MarksAtStart start (Err refusal) = RefusedBy (StartComes start) refusal
+-- and what is known of the code is known
+abbrev pub OpenedAnswers : asked.Start (List ℕ) → Result Opened Refusal → Type 0
+OpenedAnswers start (Ok opened) = IsBeginning start opened.beginning × IsWhole opened.beginning × (marked opened.marks ≡ known_in start)
+OpenedAnswers start (Err refusal) = RefusedBy (StartComes start) refusal
 
 -- what is shown of a run up to a limit is ready: its commands are those that their text says, and for a profile there is memory
 abbrev pub IsShow : Known → ℕ → Show (List ℕ) → ReadyShow → Type 0

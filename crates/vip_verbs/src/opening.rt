@@ -11,18 +11,17 @@ ghost use Rattle.vip_tools.specs.Files.{needed, script_files, show_files, start_
 ghost use Rattle.vip_tools.specs.Judged.{Answers};
 ghost use Rattle.vip_tools.specs.Opening.{keys_in};
 ghost use Rattle.vip_verbs.specs.Outcome.{RomComes, RomIs, RunComes};
-ghost use Rattle.vip_verbs.specs.Opening.{Accepts, BeginComes, BeginningAnswers, BeginsAt, IsWhole, MarksAtStart, ShowReady, Started};
+ghost use Rattle.vip_verbs.specs.Opening.{Accepts, BeginComes, BeginsAt, IsWhole, OpenedAnswers, ShowReady, Started};
 ghost use Rattle.vip_verbs.specs.Prepared.{PrepareAnswers};
 
 use crate::prepared::{Prepared, ReadyShow};
-use asm_lex::Isa;
 use chip8_lang::Edition;
 use chip8_source::{ImageFault, check_image, check_tall};
 use std::alloc::Global;
 use vip_keypad::Script;
 use vip_relation::{ResumeFault, Run, StartFault};
 use vip_show::Profile;
-use vip_tools::{Marks, Refusal, demo_game, game, game_kind, read_debugging, read_keys};
+use vip_tools::{Marks, Refusal, demo_game, game_kind, marked_game, read_debugging, read_keys};
 use vip_words::{RunRequest, Show, Speaks, Start};
 
 /// Compares an edition's ROM with its built-in source.
@@ -88,35 +87,43 @@ enum Beginning {
     Saved(Vec<u8>),
 }
 
-/// The bytes with which a run begins: those that a game's code gives come first.
-fn read_start<'a>(alloc: Global, start: Start<Vec<u8>>) -> Result<Beginning, Refusal<'a>>
+/// Where a run begins, with what is known of the code with which it does.
+#[derive(Drop)]
+struct Opened {
+    beginning: Beginning,
+    marks: Marks,
+}
+
+/// The bytes with which a run begins, and what is known of their code. A source is assembled once for both.
+fn read_start<'a>(alloc: Global, start: Start<Vec<u8>>) -> Result<Opened, Refusal<'a>>
     requires { AreFit (start_files (map_start (λ bytes. bytes.items) start)) }
-    ensures { BeginningAnswers (map_start (λ bytes. bytes.items) start) result }
+    ensures { OpenedAnswers (map_start (λ bytes. bytes.items) start) result }
 {
     match start {
         Start::Game { code, edition } => {
-            let game = game(alloc, edition, code)?;
-            Ok(Beginning::Reset { game, edition })
-        }
-        Start::State(file) => Ok(Beginning::Saved(file)),
-        Start::Demo(number) => {
-            let game = demo_game(alloc, number)?;
-            Ok(Beginning::Reset {
-                game,
-                edition: Edition::Usual,
+            let made = marked_game(alloc, edition, code)?;
+            Ok(Opened {
+                beginning: Beginning::Reset {
+                    game: made.game,
+                    edition,
+                },
+                marks: made.marks,
             })
         }
-    }
-}
-
-/// What is known of the code with which a run begins.
-fn start_marks<'a>(alloc: Global, start: &Start<Vec<u8>>) -> Result<Marks, Refusal<'a>>
-    requires { AreFit (start_files (map_start (λ bytes. bytes.items) start.now)) }
-    ensures { MarksAtStart (map_start (λ bytes. bytes.items) start.now) result }
-{
-    match start {
-        Start::Game { code, edition: _ } => Marks::of(alloc, Isa::Chip8, code),
-        Start::State(_) | Start::Demo(_) => Ok(Marks::none(alloc)),
+        Start::State(file) => Ok(Opened {
+            beginning: Beginning::Saved(file),
+            marks: Marks::none(alloc),
+        }),
+        Start::Demo(number) => {
+            let game = demo_game(alloc, number)?;
+            Ok(Opened {
+                beginning: Beginning::Reset {
+                    game,
+                    edition: Edition::Usual,
+                },
+                marks: Marks::none(alloc),
+            })
+        }
     }
 }
 
@@ -176,9 +183,8 @@ pub(crate) fn open_run<'a>(
 {
     let limit = request.limit;
     let keys = request.keys;
-    let marks = start_marks(alloc, &request.start)?;
-    let beginning = read_start(alloc, request.start)?;
-    let show = make_ready(alloc, marks, &request.show, limit)?;
-    let run = begin(alloc, beginning, keys)?;
+    let opened = read_start(alloc, request.start)?;
+    let show = make_ready(alloc, opened.marks, &request.show, limit)?;
+    let run = begin(alloc, opened.beginning, keys)?;
     Ok(Prepared::Run { run, limit, show })
 }

@@ -13,14 +13,15 @@ ghost use Rattle.vip_verbs.specs.Prepared.{IsReady, PerformAnswers, PrepareAnswe
 ghost use Rattle.vip_verbs.specs.declared.prepared.Prepared.TheVariants as ready;
 
 use crate::prepared::{Prepared, ReadyProgramShow};
-use asm_lex::Isa;
 use std::alloc::Global;
 use vip_board::Board;
 use vip_debug::run_program_commands;
 use vip_outside::{Failed, Sink};
 use vip_program::{Memory, ProgramEnd, show_pictures, show_trace, start_program};
 use vip_text::RunEnd;
-use vip_tools::{Ended, Image, Marks, PerformFault, Refusal, program, read_debugging, read_keys};
+use vip_tools::{
+    Ended, Image, Marks, PerformFault, Refusal, marked_program, read_debugging, read_keys,
+};
 use vip_words::{ProgramRequest, ProgramShow, Speaks};
 
 /// Where a program lies, by the words.
@@ -90,10 +91,9 @@ pub(crate) fn open_program<'a>(
 {
     let limit = request.limit;
     let keys = request.keys;
-    let marks = Marks::of(alloc, Isa::Cdp1802, &request.code)?;
-    let image = program(alloc, request.memory, request.code)?;
-    let show = make_ready(alloc, marks, &request.show, limit)?;
-    let board = start_board(alloc, request.memory, &image, keys)?;
+    let opened = marked_program(alloc, request.memory, request.code)?;
+    let show = make_ready(alloc, opened.marks, &request.show, limit)?;
+    let board = start_board(alloc, request.memory, &opened.image, keys)?;
     Ok(Prepared::Program { board, limit, show })
 }
 

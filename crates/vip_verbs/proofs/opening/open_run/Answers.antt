@@ -18,9 +18,6 @@ use Rattle.vip_verbs.proofs.opening.open_run.Goals as goal
 abbrev Shows : RunRequest (List ℕ) → Edition → Start → Judged Output
 Shows asked e s = ShowComes (known_in asked.start) e s asked.keys asked.limit asked.show
 
-pub start_marks-requires : goal.start_marks-requires
-start_marks-requires c = start-fits (map_run (λ bytes. bytes.items) c.args.request) c.requires.fit
-
 pub read_start-requires : goal.read_start-requires
 read_start-requires c = start-fits (map_run (λ bytes. bytes.items) c.args.request) c.requires.fit
 
@@ -28,60 +25,54 @@ pub make_ready-requires : goal.make_ready-requires
 make_ready-requires c = show-fits (map_run (λ bytes. bytes.items) c.args.request) c.requires.fit
 
 pub begin-requires-clause-beginning : goal.begin-requires-clause-beginning
-begin-requires-clause-beginning c = c.in_ok-beginning.ensures.1
+begin-requires-clause-beginning c = c.in_ok-opened.ensures.1
 
 pub begin-requires-clause-keys : goal.begin-requires-clause-keys
 begin-requires-clause-keys c = keys-fit (map_run (λ bytes. bytes.items) c.args.request) c.requires.fit
 
-pub returns-in_err-marks : goal.returns-in_err-marks
-returns-in_err-marks c =
+pub returns-in_err-opened : goal.returns-in_err-opened
+returns-in_err-opened c =
     let asked = map_run (λ bytes. bytes.items) c.args.request in
     passed (PrepareAnswers (RunComes asked)) _ _ c.from_residual.ensures.1
-    (refused-first (StartComes asked.start) (λ s. Shows asked s.edition s.start) _ c.in_err-marks.ensures)
-
-pub returns-in_err-beginning : goal.returns-in_err-beginning
-returns-in_err-beginning c =
-    let asked = map_run (λ bytes. bytes.items) c.args.request in
-    passed (PrepareAnswers (RunComes asked)) _ _ c.from_residual-in_err-beginning.ensures.1
-    (refused-first (StartComes asked.start) (λ s. Shows asked s.edition s.start) _ c.in_err-beginning.ensures)
+    (refused-first (StartComes asked.start) (λ s. Shows asked s.edition s.start) _ c.in_err-opened.ensures)
 
 pub returns-in_err-show : goal.returns-in_err-show
 returns-in_err-show c =
     let asked = map_run (λ bytes. bytes.items) c.args.request in
-    let at = c.in_ok-beginning.beginning in
+    let at = c.in_ok-opened.opened.beginning in
     passed (PrepareAnswers (RunComes asked)) _ _ c.from_residual-in_err-show.ensures.1
-    (refused-begun (Shows asked) asked.start at c.in_ok-beginning.ensures.0 _
-    (begins-all _ at c.in_ok-beginning.ensures.1 (λ e s. refused-show e s asked.keys (known_in asked.start) asked.limit asked.show _
-    (subst (λ known. ShowReady known asked.limit asked.show (Err c.in_err-show.field-0.0)) c.in_ok-marks.ensures c.in_err-show.ensures))))
+    (refused-begun (Shows asked) asked.start at c.in_ok-opened.ensures.0 _
+    (begins-all _ at c.in_ok-opened.ensures.1 (λ e s. refused-show e s asked.keys (known_in asked.start) asked.limit asked.show _
+    (subst (λ known. ShowReady known asked.limit asked.show (Err c.in_err-show.field-0.0)) c.in_ok-opened.ensures.2 c.in_err-show.ensures))))
 
 pub returns-in_err-run : goal.returns-in_err-run
 returns-in_err-run c =
     let asked = map_run (λ bytes. bytes.items) c.args.request in
-    let at = c.in_ok-beginning.beginning in
+    let at = c.in_ok-opened.opened.beginning in
     let begins = c.in_err-run.ensures in
     passed (PrepareAnswers (RunComes asked)) _ _ c.from_residual-in_err-run.ensures.1
-    (refused-begun (Shows asked) asked.start at c.in_ok-beginning.ensures.0 _
+    (refused-begun (Shows asked) asked.start at c.in_ok-opened.ensures.0 _
     (record {
       value = begins.value;
       gives = begins.gives;
       here =
           refused-begin begins.value.edition begins.value.start asked.keys (known_in asked.start) asked.limit c.in_ok-show.show asked.show
-          (subst (λ known. ShowReady known asked.limit asked.show (Ok c.in_ok-show.show)) c.in_ok-marks.ensures c.in_ok-show.ensures) _ begins.here;
+          (subst (λ known. ShowReady known asked.limit asked.show (Ok c.in_ok-show.show)) c.in_ok-opened.ensures.2 c.in_ok-show.ensures) _ begins.here;
     }))
 
 pub returns : goal.returns
 returns c =
     let asked = map_run (λ bytes. bytes.items) c.args.request in
-    let at = c.in_ok-beginning.beginning in
+    let at = c.in_ok-opened.opened.beginning in
     let run = c.in_ok-run.run' in
     let begins = c.in_ok-run.ensures in (
       (beginning-of begins.value.edition begins.value.start begins.here.value run begins.here.here.here, c.requires.limit),
-      begun-comes (Shows asked) asked.start at c.in_ok-beginning.ensures.0 _
+      begun-comes (Shows asked) asked.start at c.in_ok-opened.ensures.0 _
           (record {
             value = begins.value;
             gives = begins.gives;
             here =
                 run-comes begins.value.edition begins.value.start asked.keys (known_in asked.start) asked.limit c.in_ok-show.show asked.show
-                (subst (λ known. ShowReady known asked.limit asked.show (Ok c.in_ok-show.show)) c.in_ok-marks.ensures c.in_ok-show.ensures) run begins.here;
+                (subst (λ known. ShowReady known asked.limit asked.show (Ok c.in_ok-show.show)) c.in_ok-opened.ensures.2 c.in_ok-show.ensures) run begins.here;
           }),
     )
