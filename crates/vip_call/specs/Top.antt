@@ -16,7 +16,7 @@ use Rattle.vip_words.specs.declared.request.Request.TheVariants.{Asm, Certify, C
 use Rattle.vip_tools.specs.declared.refusal.Kind.{Kind}
 use Rattle.vip_tools.specs.declared.refusal.Refusal.{Refusal}
 use Rattle.vip_tools.specs.declared.status.Status.{Status}
-use Rattle.vip_tools.specs.declared.status.Status.TheVariants.{Done, Stopped, Usage, ReadFault, GameTooLarge, ScriptTooLarge, BadScript, BadSource, BadRomSource, RomDiffers, WriteFault, NoMemory, BadCommand, SourceTooLarge, CommandsTooLarge, BadState, NoDispatch, BadCertificate, MessageTooLarge, BadProof, CertificateTooLarge, NoCertificate, RomTooLarge, RamTooLarge, StrayByte}
+use Rattle.vip_tools.specs.declared.status.Status.TheVariants.{Done, Stopped, Usage, ReadFault, GameTooLarge, ScriptTooLarge, BadSource, BadRomSource, RomDiffers, WriteFault, NoMemory, SourceTooLarge, CommandsTooLarge, BadState, MessageTooLarge, CertificateTooLarge, NoCertificate, RomTooLarge, RamTooLarge}
 use Rattle.vip_text.specs.declared.fault.StateFault.{StateFault}
 use Rattle.vip_tools.specs.Files.{Loaded, Needed, files_of, needed, shape_of, HasAll, HasFault, IsRight, ComesTo, IsFaulty, IsLarger, IsUnread, OnlyReads, ReadsSome, reads_of, with_reads}
 use Rattle.vip_call.specs.Certified.{Certifies}
@@ -178,7 +178,7 @@ Faulty = WritesPart Exact
 
 -- ---- the answers
 
--- what each answer says
+-- what each answer says; the last row is that of requests which are refused once their files are read
 abbrev pub Says : Status → Call → Type 0
 Says Done call = WritesExactly Done call
 Says Stopped call = WritesExactly Stopped call
@@ -186,25 +186,18 @@ Says Usage call = Misused call
 Says ReadFault call = Unread call
 Says GameTooLarge call = Oversize GameTooLarge call ⊎ Rejects GameTooLarge call
 Says ScriptTooLarge call = Oversize ScriptTooLarge call
-Says BadScript call = Rejects BadScript call
 Says BadSource call = WritesExactly BadSource call ⊎ Rejects BadSource call
-Says BadRomSource call = Rejects BadRomSource call
-Says RomDiffers call = Rejects RomDiffers call
 Says WriteFault call = Faulty call
 Says NoMemory call = Wants call
-Says BadCommand call = Rejects BadCommand call
 Says SourceTooLarge call = Oversize SourceTooLarge call
 Says CommandsTooLarge call = Oversize CommandsTooLarge call
 Says BadState call = Oversize BadState call ⊎ FaultyState call
-Says NoDispatch call = Rejects NoDispatch call
-Says BadCertificate call = Rejects BadCertificate call
 Says MessageTooLarge call = Oversize MessageTooLarge call
-Says BadProof call = Rejects BadProof call
 Says CertificateTooLarge call = Oversize CertificateTooLarge call
 Says NoCertificate call = GivesUp call
 Says RomTooLarge call = Oversize RomTooLarge call
 Says RamTooLarge call = Oversize RamTooLarge call
-Says StrayByte call = Rejects StrayByte call
+Says status call = Rejects status call
 
 -- ---- when they come
 
