@@ -15,17 +15,171 @@ use vip_relation::{ResumeFault, StartFault};
 use vip_text::StateFault;
 use vip_words::{CommandCause, CommandFault, WordsFail};
 
-/// Writes the texts of all error types.
-pub fn write_fault_texts(rt: &HostRuntime) -> anyhow::Result<()> {
-    write_of_outside(rt)?;
-    write_of_assembler(rt)?;
-    write_of_rom_source(rt)?;
-    write_of_scripts(rt)?;
-    write_of_commands(rt)?;
-    write_of_certificates(rt)?;
-    write_of_proofs(rt)?;
-    write_of_boards(rt)
-}
+#[rattlefmt::skip]
+const NUM_FAULTS: &[(&str, NumFault)] = &[
+    ("Empty", NumFault::Empty),
+    ("BadDigit", NumFault::BadDigit),
+    ("TooLarge", NumFault::TooLarge),
+];
+
+#[rattlefmt::skip]
+const READ_FAILS: &[(&str, ReadFail)] = &[
+    ("Absent", ReadFail::Absent),
+    ("Failed", ReadFail::Failed),
+    ("NoMemory", ReadFail::NoMemory),
+];
+
+#[rattlefmt::skip]
+const FAILED: &[(&str, Failed)] = &[
+    ("Failed", Failed),
+];
+
+#[rattlefmt::skip]
+const WORDS_FAILS: &[(&str, WordsFail)] = &[
+    ("Refused", WordsFail::Refused),
+    ("NoMemory", WordsFail::NoMemory),
+];
+
+#[rattlefmt::skip]
+const LEX_FAULTS: &[(&str, LexFault)] = &[
+    ("BadText", LexFault::BadText),
+    ("UnknownMnemonic", LexFault::UnknownMnemonic),
+    ("BadOperand", LexFault::BadOperand),
+];
+
+#[rattlefmt::skip]
+const VALUE_FAULTS: &[(&str, ValueFault)] = &[
+    ("Undefined", ValueFault::Undefined),
+    ("Range", ValueFault::Range),
+];
+
+#[rattlefmt::skip]
+const ASM_CAUSES: &[(&str, AsmCause)] = &[
+    ("BadText", AsmCause::BadText),
+    ("UnknownMnemonic", AsmCause::UnknownMnemonic),
+    ("BadOperand", AsmCause::BadOperand),
+    ("Range", AsmCause::Range),
+    ("Duplicate", AsmCause::Duplicate),
+    ("Undefined", AsmCause::Undefined),
+    ("OffPage", AsmCause::OffPage),
+    ("Overlap", AsmCause::Overlap),
+    ("TooLarge", AsmCause::TooLarge),
+];
+
+#[rattlefmt::skip]
+const ASM_FAULTS: &[(&str, AsmFault)] = &[
+    ("line 2: OffPage", AsmFault::Fault { line: 2, cause: AsmCause::OffPage }),
+    ("NoMemory", AsmFault::NoMemory),
+];
+
+#[rattlefmt::skip]
+const IMAGE_FAULTS: &[(&str, ImageFault)] = &[
+    ("line 2: OffPage", ImageFault::BadRomSource { line: 2, cause: AsmCause::OffPage }),
+    ("8000: source 01 image 00", ImageFault::RomDiffers { address: 0x8000, assembled: 0x01, image: 0x00 }),
+    ("00AB: source CD image FF", ImageFault::RomDiffers { address: 0x00AB, assembled: 0xCD, image: 0xFF }),
+    ("NoMemory", ImageFault::NoMemory),
+];
+
+#[rattlefmt::skip]
+const SCRIPT_CAUSES: &[(&str, ScriptCause)] = &[
+    ("BadLine", ScriptCause::BadLine),
+    ("BadCycle", ScriptCause::BadCycle),
+    ("BadKey", ScriptCause::BadKey),
+    ("OutOfOrder", ScriptCause::OutOfOrder),
+    ("TooMany", ScriptCause::TooMany),
+];
+
+#[rattlefmt::skip]
+const SCRIPT_FAULTS: &[(&str, ScriptFault)] = &[
+    ("line 2: OutOfOrder", ScriptFault::Fault { line: 2, cause: ScriptCause::OutOfOrder }),
+    ("NoMemory", ScriptFault::NoMemory),
+];
+
+#[rattlefmt::skip]
+const COMMAND_CAUSES: &[(&str, CommandCause)] = &[
+    ("BadWord", CommandCause::BadWord),
+    ("BadCount", CommandCause::BadCount),
+    ("BadNumber", CommandCause::BadNumber),
+    ("Range", CommandCause::Range),
+];
+
+#[rattlefmt::skip]
+const COMMAND_FAULTS: &[(&str, CommandFault)] = &[
+    ("line 2: BadWord", CommandFault::Fault { line: 2, cause: CommandCause::BadWord }),
+    ("NoMemory", CommandFault::NoMemory),
+];
+
+#[rattlefmt::skip]
+const CERT_CAUSES: &[(&str, CertCause)] = &[
+    ("BadLine", CertCause::BadLine),
+    ("BadNumber", CertCause::BadNumber),
+    ("Order", CertCause::Order),
+    ("NoEntry", CertCause::NoEntry),
+    ("Opcode", CertCause::Opcode),
+    ("Step", CertCause::Step),
+];
+
+#[rattlefmt::skip]
+const CERT_FAULTS: &[(&str, CertFault)] = &[
+    ("line 2: NoEntry", CertFault::Fault { line: 2, cause: CertCause::NoEntry }),
+    ("NoMemory", CertFault::NoMemory),
+];
+
+#[rattlefmt::skip]
+const TIMING_CAUSES: &[(&str, TimingCause)] = &[
+    ("Opcode", TimingCause::Opcode),
+    ("Loop", TimingCause::Loop),
+    ("Most", TimingCause::Most),
+    ("Fact", TimingCause::Fact),
+];
+
+#[rattlefmt::skip]
+const PROOF_CAUSES: &[(&str, ProofCause)] = &[
+    ("BadLine", ProofCause::BadLine),
+    ("Order", ProofCause::Order),
+    ("NoStart", ProofCause::NoStart),
+    ("Outside", ProofCause::Outside),
+    ("Opcode", ProofCause::Opcode),
+    ("Access", ProofCause::Access),
+    ("Next", ProofCause::Next),
+];
+
+#[rattlefmt::skip]
+const PROOF_FAULTS: &[(&str, ProofFault)] = &[
+    ("line 2: NoStart", ProofFault::Fault { line: 2, cause: ProofCause::NoStart }),
+    ("NoMemory", ProofFault::NoMemory),
+];
+
+#[rattlefmt::skip]
+const STATE_FAULTS: &[(&str, StateFault)] = &[
+    ("BadLength", StateFault::BadLength),
+    ("BadHead", StateFault::BadHead),
+    ("BadEdition", StateFault::BadEdition),
+    ("BadCycle", StateFault::BadCycle),
+    ("BadMachine", StateFault::BadMachine),
+];
+
+#[rattlefmt::skip]
+const RESUME_FAULTS: &[(&str, ResumeFault)] = &[
+    ("BadLength", ResumeFault::State(StateFault::BadLength)),
+    ("BadHead", ResumeFault::State(StateFault::BadHead)),
+    ("BadEdition", ResumeFault::State(StateFault::BadEdition)),
+    ("BadCycle", ResumeFault::State(StateFault::BadCycle)),
+    ("BadMachine", ResumeFault::State(StateFault::BadMachine)),
+    ("NoMemory", ResumeFault::NoMemory),
+];
+
+#[rattlefmt::skip]
+const START_FAULTS: &[(&str, StartFault)] = &[
+    ("GameTooLarge 3233", StartFault::GameTooLarge(3_233)),
+    ("NoMemory", StartFault::NoMemory),
+];
+
+#[rattlefmt::skip]
+const LINK_FAULTS: &[(&str, LinkFault)] = &[
+    ("MessageTooLarge 3001", LinkFault::MessageTooLarge(3_001)),
+    ("NoMemory", LinkFault::NoMemory),
+];
 
 /// Writes what is due to each variant of a type, and then its text.
 fn write<T: Display>(rt: &HostRuntime, name: &str, faults: &[(&str, T)]) -> anyhow::Result<()> {
@@ -35,180 +189,44 @@ fn write<T: Display>(rt: &HostRuntime, name: &str, faults: &[(&str, T)]) -> anyh
     Ok(())
 }
 
-fn write_of_outside(rt: &HostRuntime) -> anyhow::Result<()> {
-    let numbers = [
-        ("Empty", NumFault::Empty),
-        ("BadDigit", NumFault::BadDigit),
-        ("TooLarge", NumFault::TooLarge),
-    ];
-    let reads = [
-        ("Absent", ReadFail::Absent),
-        ("Failed", ReadFail::Failed),
-        ("NoMemory", ReadFail::NoMemory),
-    ];
-    let words = [
-        ("Refused", WordsFail::Refused),
-        ("NoMemory", WordsFail::NoMemory),
-    ];
-    write(rt, "NumFault", &numbers)?;
-    write(rt, "ReadFail", &reads)?;
-    write(rt, "Failed", &[("Failed", Failed)])?;
-    write(rt, "WordsFail", &words)
+/// Writes the texts of all error types.
+pub fn write_fault_texts(rt: &HostRuntime) -> anyhow::Result<()> {
+    write_of_sources(rt)?;
+    write_of_scripts(rt)?;
+    write_of_certificates(rt)?;
+    write_of_boards(rt)
 }
 
-fn write_of_assembler(rt: &HostRuntime) -> anyhow::Result<()> {
-    let lines = [
-        ("BadText", LexFault::BadText),
-        ("UnknownMnemonic", LexFault::UnknownMnemonic),
-        ("BadOperand", LexFault::BadOperand),
-    ];
-    let values = [
-        ("Undefined", ValueFault::Undefined),
-        ("Range", ValueFault::Range),
-    ];
-    let causes = [
-        ("BadText", AsmCause::BadText),
-        ("UnknownMnemonic", AsmCause::UnknownMnemonic),
-        ("BadOperand", AsmCause::BadOperand),
-        ("Range", AsmCause::Range),
-        ("Duplicate", AsmCause::Duplicate),
-        ("Undefined", AsmCause::Undefined),
-        ("OffPage", AsmCause::OffPage),
-        ("Overlap", AsmCause::Overlap),
-        ("TooLarge", AsmCause::TooLarge),
-    ];
-    write(rt, "LexFault", &lines)?;
-    write(rt, "ValueFault", &values)?;
-    write(rt, "AsmCause", &causes)
-}
-
-fn write_of_rom_source(rt: &HostRuntime) -> anyhow::Result<()> {
-    let cause = AsmCause::OffPage;
-    let sources = [
-        ("line 2: OffPage", AsmFault::Fault { line: 2, cause }),
-        ("NoMemory", AsmFault::NoMemory),
-    ];
-    let first = ImageFault::RomDiffers {
-        address: 0x8000,
-        assembled: 0x01,
-        image: 0x00,
-    };
-    let low = ImageFault::RomDiffers {
-        address: 0x00AB,
-        assembled: 0xCD,
-        image: 0xFF,
-    };
-    let images = [
-        (
-            "line 2: OffPage",
-            ImageFault::BadRomSource { line: 2, cause },
-        ),
-        ("8000: source 01 image 00", first),
-        ("00AB: source CD image FF", low),
-        ("NoMemory", ImageFault::NoMemory),
-    ];
-    write(rt, "AsmFault", &sources)?;
-    write(rt, "ImageFault", &images)
+fn write_of_sources(rt: &HostRuntime) -> anyhow::Result<()> {
+    write(rt, "NumFault", NUM_FAULTS)?;
+    write(rt, "ReadFail", READ_FAILS)?;
+    write(rt, "Failed", FAILED)?;
+    write(rt, "WordsFail", WORDS_FAILS)?;
+    write(rt, "LexFault", LEX_FAULTS)?;
+    write(rt, "ValueFault", VALUE_FAULTS)?;
+    write(rt, "AsmCause", ASM_CAUSES)?;
+    write(rt, "AsmFault", ASM_FAULTS)?;
+    write(rt, "ImageFault", IMAGE_FAULTS)
 }
 
 fn write_of_scripts(rt: &HostRuntime) -> anyhow::Result<()> {
-    let causes = [
-        ("BadLine", ScriptCause::BadLine),
-        ("BadCycle", ScriptCause::BadCycle),
-        ("BadKey", ScriptCause::BadKey),
-        ("OutOfOrder", ScriptCause::OutOfOrder),
-        ("TooMany", ScriptCause::TooMany),
-    ];
-    let cause = ScriptCause::OutOfOrder;
-    let faults = [
-        ("line 2: OutOfOrder", ScriptFault::Fault { line: 2, cause }),
-        ("NoMemory", ScriptFault::NoMemory),
-    ];
-    write(rt, "ScriptCause", &causes)?;
-    write(rt, "ScriptFault", &faults)
-}
-
-fn write_of_commands(rt: &HostRuntime) -> anyhow::Result<()> {
-    let causes = [
-        ("BadWord", CommandCause::BadWord),
-        ("BadCount", CommandCause::BadCount),
-        ("BadNumber", CommandCause::BadNumber),
-        ("Range", CommandCause::Range),
-    ];
-    let cause = CommandCause::BadWord;
-    let faults = [
-        ("line 2: BadWord", CommandFault::Fault { line: 2, cause }),
-        ("NoMemory", CommandFault::NoMemory),
-    ];
-    write(rt, "CommandCause", &causes)?;
-    write(rt, "CommandFault", &faults)
+    write(rt, "ScriptCause", SCRIPT_CAUSES)?;
+    write(rt, "ScriptFault", SCRIPT_FAULTS)?;
+    write(rt, "CommandCause", COMMAND_CAUSES)?;
+    write(rt, "CommandFault", COMMAND_FAULTS)
 }
 
 fn write_of_certificates(rt: &HostRuntime) -> anyhow::Result<()> {
-    let causes = [
-        ("BadLine", CertCause::BadLine),
-        ("BadNumber", CertCause::BadNumber),
-        ("Order", CertCause::Order),
-        ("NoEntry", CertCause::NoEntry),
-        ("Opcode", CertCause::Opcode),
-        ("Step", CertCause::Step),
-    ];
-    let cause = CertCause::NoEntry;
-    let faults = [
-        ("line 2: NoEntry", CertFault::Fault { line: 2, cause }),
-        ("NoMemory", CertFault::NoMemory),
-    ];
-    let timing = [
-        ("Opcode", TimingCause::Opcode),
-        ("Loop", TimingCause::Loop),
-        ("Most", TimingCause::Most),
-        ("Fact", TimingCause::Fact),
-    ];
-    write(rt, "CertCause", &causes)?;
-    write(rt, "CertFault", &faults)?;
-    write(rt, "TimingCause", &timing)
-}
-
-fn write_of_proofs(rt: &HostRuntime) -> anyhow::Result<()> {
-    let causes = [
-        ("BadLine", ProofCause::BadLine),
-        ("Order", ProofCause::Order),
-        ("NoStart", ProofCause::NoStart),
-        ("Outside", ProofCause::Outside),
-        ("Opcode", ProofCause::Opcode),
-        ("Access", ProofCause::Access),
-        ("Next", ProofCause::Next),
-    ];
-    let cause = ProofCause::NoStart;
-    let faults = [
-        ("line 2: NoStart", ProofFault::Fault { line: 2, cause }),
-        ("NoMemory", ProofFault::NoMemory),
-    ];
-    write(rt, "ProofCause", &causes)?;
-    write(rt, "ProofFault", &faults)
+    write(rt, "CertCause", CERT_CAUSES)?;
+    write(rt, "CertFault", CERT_FAULTS)?;
+    write(rt, "TimingCause", TIMING_CAUSES)?;
+    write(rt, "ProofCause", PROOF_CAUSES)?;
+    write(rt, "ProofFault", PROOF_FAULTS)
 }
 
 fn write_of_boards(rt: &HostRuntime) -> anyhow::Result<()> {
-    let states = [
-        ("BadLength", StateFault::BadLength),
-        ("BadHead", StateFault::BadHead),
-        ("BadEdition", StateFault::BadEdition),
-        ("BadCycle", StateFault::BadCycle),
-        ("BadMachine", StateFault::BadMachine),
-    ];
-    let starts = [
-        ("GameTooLarge 3233", StartFault::GameTooLarge(3_233)),
-        ("NoMemory", StartFault::NoMemory),
-    ];
-    let links = [
-        ("MessageTooLarge 3001", LinkFault::MessageTooLarge(3_001)),
-        ("NoMemory", LinkFault::NoMemory),
-    ];
-    write(rt, "StateFault", &states)?;
-    for (due, state) in states {
-        write(rt, "ResumeFault", &[(due, ResumeFault::State(state))])?;
-    }
-    write(rt, "ResumeFault", &[("NoMemory", ResumeFault::NoMemory)])?;
-    write(rt, "StartFault", &starts)?;
-    write(rt, "LinkFault", &links)
+    write(rt, "StateFault", STATE_FAULTS)?;
+    write(rt, "ResumeFault", RESUME_FAULTS)?;
+    write(rt, "StartFault", START_FAULTS)?;
+    write(rt, "LinkFault", LINK_FAULTS)
 }

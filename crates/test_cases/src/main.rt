@@ -13,24 +13,22 @@
 //! here is proved but that it is safe.
 #![tactic(auto)]
 
-mod answer;
-mod case;
+mod block;
 mod due;
-mod fault;
 mod fault_texts;
-mod group;
 mod outside;
 mod pattern;
+mod run;
 mod screen;
 mod texts;
-mod word;
 
-use crate::answer::{Answer, is_record};
-use crate::case::Case;
+use crate::block::{Block, split_block, words_of};
+use crate::due::is_met;
 use crate::fault_texts::write_fault_texts;
-use crate::group::{Group, groups_of};
 use crate::outside::{write_files, write_streams};
+use crate::run::{Run, is_record};
 use crate::texts::{write_exits, write_number, write_refusals};
+use anyhow::{Context, bail};
 use std::fs;
 use vip_tools::demo_game;
 
@@ -54,68 +52,123 @@ impl Count {
 }
 
 /// Runs a case in an edition, and writes what isn't as it must be.
-fn judge(rt: &HostRuntime, case: &Case, tall: bool, count: &mut Count) -> anyhow::Result<()> {
-    let answer = case.run(rt.alloc(), tall)?;
-    let missed = case.missing_lines(rt.alloc(), &answer)?;
-    count.add(missed.is_empty());
-    if missed.is_empty() {
-        return Ok(());
-    }
-    write_missed(rt, case, tall, &missed, &answer)
+fn judge(
+    rt: &HostRuntime,
+    name: &str,
+    tall: bool,
+    lines: &str,
+    count: &mut Count,
+) -> anyhow::Result<()> {
+    let mut run = Run::new(rt.alloc())?;
+    run.make(rt.alloc(), lines, tall)?;
+    let missed = write_missed(rt, name, tall, lines, &run)?;
+    count.add(!missed);
+    Ok(())
 }
 
-/// Writes what was due to a case, and what came.
+/// Writes what was due to a case and didn't come, and then what came. Answers whether something didn't come.
 fn write_missed(
     rt: &HostRuntime,
-    case: &Case,
+    name: &str,
     tall: bool,
-    missed: &str,
-    answer: &Answer,
-) -> anyhow::Result<()> {
-    println!(rt; "{}{}", case.name, if tall { ", tall" } else { "" })?;
-    write_due(rt, missed)?;
-    write_came(rt, answer)?;
-    write_records(rt, answer)?;
-    write_rows(rt, answer)
+    lines: &str,
+    run: &Run,
+) -> anyhow::Result<bool> {
+    let missed = write_missed_blocks(rt, name, tall, lines, run)?;
+    if missed {
+        write_came(rt, run)?;
+        write_records(rt, run)?;
+        write_rows(rt, run)?;
+    }
+    Ok(missed)
 }
 
-/// Writes what was due, a line each.
-fn write_due(rt: &HostRuntime, missed: &str) -> anyhow::Result<()> {
-    for line in missed.lines() {
-        println!(rt; "  due:  {line}")?;
+/// Writes what was due and didn't come. Answers whether there was such. A case to which nothing is due is none.
+fn write_missed_blocks(
+    rt: &HostRuntime,
+    name: &str,
+    tall: bool,
+    lines: &str,
+    run: &Run,
+) -> anyhow::Result<bool> {
+    let mut rest = lines;
+    let mut has_due = false;
+    let mut missed = false;
+    for _block in 0..lines.len() {
+        let Some((block, behind)) = split_block(rest) else {
+            break;
+        };
+        rest = behind;
+        if block.is_due() {
+            has_due = true;
+            if !is_met(rt.alloc(), &block, run)? {
+                write_due(rt, name, tall, &block, missed)?;
+                missed = true;
+            }
+        }
+    }
+    if !has_due {
+        bail!("nothing is due to {name}");
+    }
+    Ok(missed)
+}
+
+/// Writes a block of what was due, a line each, and before the first one the name of the case.
+fn write_due(
+    rt: &HostRuntime,
+    name: &str,
+    tall: bool,
+    block: &Block<'_>,
+    is_named: bool,
+) -> anyhow::Result<()> {
+    if !is_named {
+        println!(rt; "{name}{}", if tall { ", tall" } else { "" })?;
+    }
+    for line in block.text.lines() {
+        let (word, _) = words_of(line);
+        if !word.is_empty() {
+            println!(rt; "  due:  {}", line.trim_start())?;
+        }
     }
     Ok(())
 }
 
 /// Writes what came.
-fn write_came(rt: &HostRuntime, answer: &Answer) -> anyhow::Result<()> {
-    println!(rt; "  came: status {}", answer.status)?;
-    println!(rt; "  came: report {}", answer.err.bytes().escape_ascii())?;
+fn write_came(rt: &HostRuntime, run: &Run) -> anyhow::Result<()> {
+    println!(rt; "  came: status {}", run.status)?;
+    println!(rt; "  came: report {}", run.err.bytes().escape_ascii())?;
     println!(rt;
         "  came: bytes {}, puts {}, reports {}, records {}",
-        answer.out.bytes().len(),
-        answer.out.calls(),
-        answer.err.calls(),
-        answer.records()
+        run.out.bytes().len(),
+        run.out.calls(),
+        run.err.calls(),
+        run.records()
     )?;
     Ok(())
 }
 
 /// Writes the first records of an output, and its last.
-fn write_records(rt: &HostRuntime, answer: &Answer) -> anyhow::Result<()> {
-    for line in answer.lines().filter(|line| is_record(line)).take(SHOWN) {
-        println!(rt; "  came: {}", line.escape_ascii())?;
+fn write_records(rt: &HostRuntime, run: &Run) -> anyhow::Result<()> {
+    let mut left = SHOWN;
+    for line in run.lines() {
+        if left > 0 && is_record(line) {
+            println!(rt; "  came: {}", line.escape_ascii())?;
+            left -= 1;
+        }
     }
-    if let Some(record) = answer.last_record() {
+    if let Some(record) = run.last_record() {
         println!(rt; "  came: last {}", record.escape_ascii())?;
     }
     Ok(())
 }
 
 /// Writes the lit rows of an output's screen.
-fn write_rows(rt: &HostRuntime, answer: &Answer) -> anyhow::Result<()> {
+fn write_rows(rt: &HostRuntime, run: &Run) -> anyhow::Result<()> {
     let mut y = 0usize;
-    for row in answer.lines().filter(|line| !is_record(line)) {
+    for row in run.lines() {
+        if is_record(row) {
+            continue;
+        }
         if row.contains(&b'#') {
             println!(rt; "  came: row {y} {}", row.escape_ascii())?;
         }
@@ -124,25 +177,56 @@ fn write_rows(rt: &HostRuntime, answer: &Answer) -> anyhow::Result<()> {
     Ok(())
 }
 
-/// Runs the cases of a group, those for both editions in each, and writes how they went.
-fn run_group(rt: &HostRuntime, group: &Group) -> anyhow::Result<()> {
-    let mut count = Count::NONE;
-    for case in group.cases.iter() {
-        judge(rt, case, false, &mut count)?;
-        if case.both {
-            judge(rt, case, true, &mut count)?;
+/// Whether a case is for both editions.
+fn is_for_both(case: &str) -> bool {
+    for line in case.lines() {
+        if words_of(line).0 == "both" {
+            return true;
         }
     }
+    false
+}
+
+/// Runs a case, and one for both editions in each.
+fn run_case(rt: &HostRuntime, case: &str, count: &mut Count) -> anyhow::Result<()> {
+    let (name, lines) = case.split_once('\n').context("not a case")?;
+    judge(rt, name, false, lines, count)?;
+    if is_for_both(lines) {
+        judge(rt, name, true, lines, count)?;
+    }
+    Ok(())
+}
+
+/// The first line of a text, and what is behind the first mark. None where a line between says something.
+fn split_head<'a>(text: &'a str, mark: &str) -> Option<(&'a str, &'a str)> {
+    let (head, behind) = text.split_once(mark)?;
+    let (first, more) = head.split_once('\n').unwrap_or((head, ""));
+    for line in more.lines() {
+        if !words_of(line).0.is_empty() {
+            return None;
+        }
+    }
+    Some((first, behind))
+}
+
+/// Runs the cases of a group, and writes how they went.
+fn run_group(rt: &HostRuntime, group: &str) -> anyhow::Result<()> {
+    let (name, cases) = split_head(group, "\ncase ").context("not a group")?;
+    let mut count = Count::NONE;
+    for case in cases.split("\ncase ") {
+        run_case(rt, case, &mut count)?;
+    }
     println!(rt;
-        "{}: {} of {} cases as they must be",
-        group.name, count.right, count.run
+        "{name}: {} of {} cases as they must be",
+        count.right, count.run
     )?;
     Ok(())
 }
 
 /// Runs the groups of a text.
 fn run_groups(rt: &HostRuntime, text: &str) -> anyhow::Result<()> {
-    for group in groups_of(rt.alloc(), text)?.iter() {
+    let (_, groups) = split_head(text, "\ngroup ").context("no groups")?;
+    for group in groups.split("\ngroup ") {
         run_group(rt, group)?;
     }
     Ok(())

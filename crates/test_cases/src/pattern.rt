@@ -1,6 +1,5 @@
 //! Lines and numbers that are due, in which a word `A..B` stands for each number from A to B.
 
-use crate::fault::CaseFault;
 use vip_byte::read_decimal;
 
 /// The greatest number in a text of cases.
@@ -15,9 +14,9 @@ pub struct Range {
 
 impl Range {
     /// The range of a word: a number, or two with `..` between.
-    pub fn read(word: &str) -> Result<Range, CaseFault> {
+    pub fn read(word: &str) -> Option<Range> {
         let (least, most) = word.split_once("..").unwrap_or((word, word));
-        Ok(Range {
+        Some(Range {
             least: number(least)?,
             most: number(most)?,
         })
@@ -29,8 +28,8 @@ impl Range {
 }
 
 /// The decimal number of a word.
-pub fn number(word: &str) -> Result<u64, CaseFault> {
-    read_decimal(word.as_bytes(), MOST).map_err(|_| CaseFault::NotACase)
+pub fn number(word: &str) -> Option<u64> {
+    read_decimal(word.as_bytes(), MOST).ok()
 }
 
 /// Whether a line is the one that is due.

@@ -25,15 +25,20 @@ pub fn write_refusals(rt: &HostRuntime) -> anyhow::Result<()> {
         Refusal::Rom(ImageFault::NoMemory),
         Refusal::NoMemory,
     ];
-    for refusal in refusals {
-        let mut sink = MemSink::new(rt.alloc(), REPORT_ROOM)?;
-        let _ = put_refusal(rt.alloc(), &mut sink, &refusal);
-        println!(rt;
-            "status {}, report {}",
-            refusal.status().number(),
-            sink.bytes().escape_ascii()
-        )?;
+    for refusal in refusals.iter() {
+        write_refusal(rt, refusal)?;
     }
+    Ok(())
+}
+
+fn write_refusal(rt: &HostRuntime, refusal: &Refusal) -> anyhow::Result<()> {
+    let mut sink = MemSink::new(rt.alloc(), REPORT_ROOM)?;
+    let _ = put_refusal(rt.alloc(), &mut sink, refusal);
+    println!(rt;
+        "status {}, report {}",
+        refusal.status().number(),
+        sink.bytes().escape_ascii()
+    )?;
     Ok(())
 }
 
