@@ -1,6 +1,6 @@
 //! The texts that the program shows: the lines of a trace, the lines that name a stop or an idle processor, a summary, a screen, a picture as PBM, and the
-//! cycle bounds of the interpreter, the most machine cycles from one dispatch point to the next by the instruction, with their table; how a run may end;
-//! and which files are machine states, what they hold, and what may be wrong with one.
+//! cycle bounds of the interpreter, the most machine cycles from one dispatch point to the next by the instruction, with their table; up to where a run
+//! goes and how it may end; and which files are machine states, what they hold, and what may be wrong with one.
 //!
 //! The crate stands on the views of the language (`chip8_lang`) and its words (`chip8_words`), on the ROM's labels and places (`chip8_image`), on the parts of
 //! a processor (`vip_cpu`), on the pictures of `vip_video`, on the digits and the buffer of `vip_byte`, and on the kit's `itoa`. It runs nothing. The layers
@@ -12,6 +12,7 @@
 mod bounds;
 mod ending;
 mod fault;
+mod limit;
 mod picture;
 mod screen;
 pub mod state_file;
@@ -23,6 +24,7 @@ mod write;
 pub use bounds::{BOOT, STOP, bound, bounds_text};
 pub use ending::RunEnd;
 pub use fault::StateFault;
+pub use limit::Limit;
 pub use picture::{PICTURE_SIZE, picture_text};
 pub use screen::{ROW_SIZE, WIDTH, is_lit, screen_text};
 pub use stop::{idle_text, stop_text};
