@@ -1,6 +1,6 @@
 //! A run from event to event.
 
-ghost use Rattle.std.specs.Prelude.{◌≡◌, ◌+◌, ◌<◌, ◌≤◌, ◌⊎◌, ◌↔◌, ℕ, [], IsTrue, IfOk, Some, None, if◌then◌else◌, length, true, false};
+ghost use Rattle.std.specs.Prelude.{◌≡◌, ◌+◌, ◌<◌, ◌⊎◌, ◌↔◌, ℕ, [], IsTrue, IfOk, Some, None, if◌then◌else◌, length, true, false};
 ghost use Rattle.std.specs.Option.{option_map};
 ghost use Rattle.chip8_lang.specs.View.{seen, view_at};
 ghost use Rattle.vip_relation.specs.Kept.{named};
@@ -16,6 +16,7 @@ use std::alloc::Global;
 use std::marker::Model;
 use vip_board::{Board, Moved, Stops};
 use vip_keypad::Script;
+use vip_text::Limit;
 use vip_text::state_file::{KEY, RAM, check_state, cycle, parts};
 
 /// What `advance` met: a picture that the video chip has finished, a dispatch point, the stop point, or the limit.
@@ -87,7 +88,7 @@ impl Run {
     ghost use Rattle.machine.specs.Board.{length_of};
     ghost use Rattle.chip8_lang.specs.Events.{is_stop};
     ghost use Rattle.vip_board.specs.Moves.{IfDone};
-    ghost use Rattle.vip_relation.specs.State.{most_cycles, interpreter, events_to, events_left, events_waiting};
+    ghost use Rattle.vip_relation.specs.State.{interpreter, events_to, events_left, events_waiting};
     ghost use Rattle.vip_relation.specs.Stops.{stop_record};
     ghost use Rattle.vip_relation.specs.Follows.{Follows};
     ghost use Rattle.vip_relation.specs.Meets.{StartAnswers, ResumeAnswers, MeetsNext, HasStopped, StopsAgain, Rests};
@@ -215,8 +216,7 @@ impl Run {
     /// Makes moves up to the first event that wasn't met yet and whose cycle is at most `limit`, and answers it. After a stop it answers
     /// that stop again. `End` comes where there is no such event; the board then stands after the last move that ends at or before
     /// `limit`, or where it stood if that is later.
-    pub fn advance(&mut self, limit: u64) -> Met
-        requires { limit ≤ most_cycles }
+    pub fn advance(&mut self, limit: Limit) -> Met
         ensures follows { Follows self.new }
         ensures again { HasStopped self.old → StopsAgain self.old self.new result }
         ensures next { (HasStopped self.old → ⊥) → MeetsNext limit self.old self.new (events_left self.old limit) result }
@@ -224,7 +224,7 @@ impl Run {
         if self.has_stopped() {
             return Met::Stopped(self.stop_record());
         }
-        if self.board.now() > limit {
+        if self.board.now() > limit.cycles() {
             return Met::End;
         }
         loop {
@@ -264,13 +264,13 @@ impl Run {
     }
 
     /// Whether the board is at a stop point, or its next move would end after the limit.
-    pub(crate) fn rests(&self, limit: u64) -> bool
+    pub(crate) fn rests(&self, limit: Limit) -> bool
         ensures follows { Follows self.now }
         ensures rests { IsTrue result ↔ Rests limit self.now }
     {
         match self.point {
             Point::Stop => true,
-            _ => self.board.now() + self.board.next_length() > limit,
+            _ => self.board.now() + self.board.next_length() > limit.cycles(),
         }
     }
 
@@ -305,8 +305,7 @@ impl Run {
     /// Makes moves up to the first one behind which an event may wait or one of `stops` comes next, or some of them; none where the next one
     /// would end after the limit. Answers how many. No event waits, and the board is at no stop point.
     #[inline(always)]
-    pub(crate) fn run<S: Stops>(&mut self, limit: u64, stops: S) -> u64
-        requires limit { limit ≤ most_cycles }
+    pub(crate) fn run<S: Stops>(&mut self, limit: Limit, stops: S) -> u64
         requires met { events_waiting self.old ≡ [] }
         requires runs { is_stop (interpreter self.old) self.old.board.machine ≡ false }
         ensures follows { Follows self.new }
@@ -317,7 +316,9 @@ impl Run {
     {
         let places = Places::of(self.edition);
         let pictures = self.board.video().count();
-        let made = self.board.run(limit, ((places.fetch, places.halt), stops));
+        let made = self
+            .board
+            .run(limit.cycles(), ((places.fetch, places.halt), stops));
         if made == 0 {
             return 0;
         }
@@ -330,8 +331,7 @@ impl Run {
     /// Makes one move, which leads to a new state whose events wait, or changes nothing where it would end after the limit. No event waits,
     /// and the board is at no stop point.
     #[inline(always)]
-    pub(crate) fn step(&mut self, limit: u64) -> Moved
-        requires limit { limit ≤ most_cycles }
+    pub(crate) fn step(&mut self, limit: Limit) -> Moved
         requires met { events_waiting self.old ≡ [] }
         requires runs { is_stop (interpreter self.old) self.old.board.machine ≡ false }
         ensures follows { Follows self.new }
@@ -340,7 +340,7 @@ impl Run {
         ensures moved { IfDone result (λ move. Steps self.old self.new move) }
     {
         let pictures = self.board.video().count();
-        match self.board.to_boundary(limit) {
+        match self.board.to_boundary(limit.cycles()) {
             Moved::End => Moved::End,
             Moved::Done(name) => {
                 self.moves += 1;

@@ -1,6 +1,6 @@
 //! A board that runs a game, and what it tells of the last dispatch point met.
 
-ghost use Rattle.std.specs.Prelude.{◌≡◌, ◌<◌, ◌≤◌, ◌↔◌, IfOk, Some, None, if◌then◌else◌, length};
+ghost use Rattle.std.specs.Prelude.{◌≡◌, ◌<◌, ◌↔◌, IfOk, Some, None, if◌then◌else◌, length};
 ghost use Rattle.std.specs.Option.{option_map};
 ghost use Rattle.chip8_lang.specs.View.{seen, view_at};
 ghost use Rattle.vip_relation.specs.State.{screen_bytes, screen_size};
@@ -13,6 +13,7 @@ use std::alloc::Global;
 use std::marker::Model;
 use vip_board::{Board, Moved, Stops};
 use vip_keypad::Script;
+use vip_text::Limit;
 
 /// A run of a game that keeps the language state and the screen at the last dispatch point met, for whoever asks once the board has gone
 /// on. A run alone, `Run`, keeps neither.
@@ -38,7 +39,7 @@ impl Model for Vip {
 impl Vip {
     ghost use Rattle.chip8_lang.specs.Events.{is_stop};
     ghost use Rattle.vip_board.specs.Moves.{IfDone};
-    ghost use Rattle.vip_relation.specs.State.{begun, most_cycles, interpreter, events_left};
+    ghost use Rattle.vip_relation.specs.State.{begun, interpreter, events_left};
     ghost use Rattle.vip_relation.specs.Stops.{stop_record};
     ghost use Rattle.vip_relation.specs.Follows.{Follows};
     ghost use Rattle.vip_relation.specs.Meets.{StartAnswers, MeetsNext, HasStopped, StopsAgain, Rests, MovesOn, MovesBy};
@@ -129,8 +130,7 @@ impl Vip {
     /// Makes moves up to the first event that wasn't met yet and whose cycle is at most `limit`, and answers it. After a stop it answers
     /// that stop again. `End` comes where there is no such event; the board then stands after the last move that ends at or before
     /// `limit`, or where it stood if that is later.
-    pub fn advance(&mut self, limit: u64) -> Met
-        requires { limit ≤ most_cycles }
+    pub fn advance(&mut self, limit: Limit) -> Met
         ensures follows { Follows self.new }
         ensures again { HasStopped self.old → StopsAgain self.old self.new result }
         ensures next { (HasStopped self.old → ⊥) → MeetsNext limit self.old self.new (events_left self.old limit) result }
@@ -144,8 +144,7 @@ impl Vip {
 
     /// Makes one move and names it. `End` comes exactly where the move would end after `limit` or the board is at a stop point, and
     /// changes nothing. Every event up to the board's new cycle then counts as met.
-    pub fn one_move(&mut self, limit: u64) -> Moved
-        requires { limit ≤ most_cycles }
+    pub fn one_move(&mut self, limit: Limit) -> Moved
         ensures follows { Follows self.new }
         ensures end { (result ≡ Moved.End) ↔ Rests limit self.old }
         ensures kept { result ≡ Moved.End → self.new ≡ self.old }
@@ -163,8 +162,7 @@ impl Vip {
     /// Makes some of the next moves: none behind which one of `stops` comes next, which leads to a stop point, or which ends after `limit`, but
     /// for the last one, which ends by then too. Answers how many: none comes exactly where the next move would end after `limit` or the board
     /// is at a stop point, and changes nothing. Every event up to the board's new cycle then counts as met.
-    pub fn move_on<S: Stops>(&mut self, limit: u64, stops: S) -> u64
-        requires { limit ≤ most_cycles }
+    pub fn move_on<S: Stops>(&mut self, limit: Limit, stops: S) -> u64
         ensures follows { Follows self.new }
         ensures end { (result ≡ 0) ↔ Rests limit self.old }
         ensures kept { result ≡ 0 → self.new ≡ self.old }

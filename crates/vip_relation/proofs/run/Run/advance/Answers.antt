@@ -20,11 +20,11 @@ returns-then-has_stopped-clause-again c stopped = record { same = refl; stop = a
 pub returns-then-has_stopped-clause-next : goal.returns-then-has_stopped-clause-next
 returns-then-has_stopped-clause-next c running = absurd (running (c.has_stopped.ensures.0 c.if-has_stopped.true))
 
-pub returns-then-now-limit-clause-follows : goal.returns-then-now-limit-clause-follows
-returns-then-now-limit-clause-follows c = subst Follows c.self.view_is c.self.invariant.follows
+pub returns-then-now-cycles-clause-follows : goal.returns-then-now-cycles-clause-follows
+returns-then-now-cycles-clause-follows c = subst Follows c.self.view_is c.self.invariant.follows
 
-pub returns-then-now-limit-clause-again : goal.returns-then-now-limit-clause-again
-returns-then-now-limit-clause-again c stopped = absurd (both_ways c.has_stopped.result c.if-has_stopped.false (c.has_stopped.ensures.1 stopped))
+pub returns-then-now-cycles-clause-again : goal.returns-then-now-cycles-clause-again
+returns-then-now-cycles-clause-again c stopped = absurd (both_ways c.has_stopped.result c.if-has_stopped.false (c.has_stopped.ensures.1 stopped))
 
 pub returns-in-Some-clause-again : goal.returns-in-Some-clause-again
 returns-in-Some-clause-again c stopped = absurd (both_ways c.has_stopped.result c.if-has_stopped.false (c.has_stopped.ensures.1 stopped))
@@ -32,9 +32,9 @@ returns-in-Some-clause-again c stopped = absurd (both_ways c.has_stopped.result 
 pub returns-then-run-eq0-clause-again : goal.returns-then-run-eq0-clause-again
 returns-then-run-eq0-clause-again c stopped = absurd (both_ways c.has_stopped.result c.if-has_stopped.false (c.has_stopped.ensures.1 stopped))
 
-pub returns-then-now-limit-clause-next : goal.returns-then-now-limit-clause-next
-returns-then-now-limit-clause-next c running =
-    let over : c.args.limit < c.self.inside.board.machine.cycle = omega (arith, c.if-now-limit.true, c.now.ensures) in
+pub returns-then-now-cycles-clause-next : goal.returns-then-now-cycles-clause-next
+returns-then-now-cycles-clause-next c running =
+    let over : c.args.limit < c.self.inside.board.machine.cycle = omega (arith, c.if-now-cycles.true, c.now.ensures, c.cycles.ensures.value) in
     subst (λ v. (HasStopped v → ⊥) → MeetsNext c.args.limit v v (events_left v c.args.limit) End) c.self.view_is
     (ends-before c.args.limit (state_of c.self.inside) c.self.invariant.follows over) running
 
@@ -46,7 +46,7 @@ returns-in-Some-clause-next c running =
 
 pub loop-met-init : goal.loop-met-init
 loop-met-init c =
-    let within : c.self.inside.board.machine.cycle ≤ c.args.limit = omega (arith, c.if-now-limit.false, c.now.ensures) in
+    let within : c.self.inside.board.machine.cycle ≤ c.args.limit = omega (arith, c.if-now-cycles.false, c.now.ensures, c.cycles.ensures.value) in
     reaches-self c.args.limit c.args.self.now (subst (λ (v : VipState). v.board.machine.cycle ≤ c.args.limit) c.self.view_is within)
     (λ stopped. both_ways c.has_stopped.result c.if-has_stopped.false (c.has_stopped.ensures.1 stopped))
     (subst Follows c.self.view_is c.self.invariant.follows)

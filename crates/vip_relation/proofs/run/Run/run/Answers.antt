@@ -39,7 +39,7 @@ waits_are waits before after s t is is_before is_after = is ∙ ap (λ n. waits_
 pub overflow_add-self : goal.overflow_add-self
 overflow_add-self g c =
     let few = few-moves (state_of c.self.inside) c.self.invariant.follows in
-    omega (arith, few, c.run-made.ensures.few, c.requires.limit)
+    omega (arith, few, c.run-made.ensures.few, c.cycles.ensures.bound)
 
 pub point_at-self-inside-requires : goal.point_at-self-inside-requires
 point_at-self-inside-requires g c =
@@ -50,10 +50,10 @@ invariant_of-self-2 g c =
     (ran c.self.inside c.args.limit c.run-made.result c.run-made.new.self c.point_at-self-inside.result c.waits_by-self-inside.result c.self.invariant
     (subst (λ v. events_waiting v ≡ []) (sym c.self.view_is) c.requires.met)
     (subst (λ (v : VipState). is_stop (interpreter v) v.board.machine ≡ false) (sym c.self.view_is) c.requires.runs)
-    c.requires.limit c.run-made.ensures.made.moves c.if-made-eq0.false
+    (rw c.cycles.ensures.value at c.cycles.ensures.bound) c.run-made.ensures.made.moves c.if-made-eq0.false
     (by_places (g.S.Stops.stands c.args.stops) c.self.inside.board c.run-made.result c.of-places.result.fetch c.of-places.result.halt (interpreter_of c.self.inside.edition)
     c.of-places.ensures.fetch c.of-places.ensures.halt c.run-made.ensures.made.passes)
-    c.run-made.ensures.made.within c.point_at-self-inside.ensures
+    (rw c.cycles.ensures.value at c.run-made.ensures.made.within) c.point_at-self-inside.ensures
     (waits_are c.waits_by-self-inside.result c.count-pictures.result c.count.result c.self.inside.board c.run-made.new.self c.waits_by-self-inside.ensures
     (c.count-pictures.ensures ∙ ap (λ (chip : Chip). chip.pictures.count) c.video.ensures)
     (c.count.ensures ∙ ap (λ (chip : Chip). chip.pictures.count) c.video-2.ensures))).kept
@@ -63,10 +63,10 @@ returns-clause-follows g c =
     (ran c.self.inside c.args.limit c.run-made.result c.run-made.new.self c.point_at-self-inside.result c.waits_by-self-inside.result c.self.invariant
     (subst (λ v. events_waiting v ≡ []) (sym c.self.view_is) c.requires.met)
     (subst (λ (v : VipState). is_stop (interpreter v) v.board.machine ≡ false) (sym c.self.view_is) c.requires.runs)
-    c.requires.limit c.run-made.ensures.made.moves c.if-made-eq0.false
+    (rw c.cycles.ensures.value at c.cycles.ensures.bound) c.run-made.ensures.made.moves c.if-made-eq0.false
     (by_places (g.S.Stops.stands c.args.stops) c.self.inside.board c.run-made.result c.of-places.result.fetch c.of-places.result.halt (interpreter_of c.self.inside.edition)
     c.of-places.ensures.fetch c.of-places.ensures.halt c.run-made.ensures.made.passes)
-    c.run-made.ensures.made.within c.point_at-self-inside.ensures
+    (rw c.cycles.ensures.value at c.run-made.ensures.made.within) c.point_at-self-inside.ensures
     (waits_are c.waits_by-self-inside.result c.count-pictures.result c.count.result c.self.inside.board c.run-made.new.self c.waits_by-self-inside.ensures
     (c.count-pictures.ensures ∙ ap (λ (chip : Chip). chip.pictures.count) c.video.ensures)
     (c.count.ensures ∙ ap (λ (chip : Chip). chip.pictures.count) c.video-2.ensures))).kept.follows
@@ -82,10 +82,10 @@ returns-clause-moved g c made =
     (ran c.self.inside c.args.limit c.run-made.result c.run-made.new.self c.point_at-self-inside.result c.waits_by-self-inside.result c.self.invariant
     (subst (λ v. events_waiting v ≡ []) (sym c.self.view_is) c.requires.met)
     (subst (λ (v : VipState). is_stop (interpreter v) v.board.machine ≡ false) (sym c.self.view_is) c.requires.runs)
-    c.requires.limit c.run-made.ensures.made.moves c.if-made-eq0.false
+    (rw c.cycles.ensures.value at c.cycles.ensures.bound) c.run-made.ensures.made.moves c.if-made-eq0.false
     (by_places (g.S.Stops.stands c.args.stops) c.self.inside.board c.run-made.result c.of-places.result.fetch c.of-places.result.halt (interpreter_of c.self.inside.edition)
     c.of-places.ensures.fetch c.of-places.ensures.halt c.run-made.ensures.made.passes)
-    c.run-made.ensures.made.within c.point_at-self-inside.ensures
+    (rw c.cycles.ensures.value at c.run-made.ensures.made.within) c.point_at-self-inside.ensures
     (waits_are c.waits_by-self-inside.result c.count-pictures.result c.count.result c.self.inside.board c.run-made.new.self c.waits_by-self-inside.ensures
     (c.count-pictures.ensures ∙ ap (λ (chip : Chip). chip.pictures.count) c.video.ensures)
     (c.count.ensures ∙ ap (λ (chip : Chip). chip.pictures.count) c.video-2.ensures))).runs
@@ -113,7 +113,7 @@ returns-clause-made g c made =
 pub returns-then-made-eq0-clause-end : goal.returns-then-made-eq0-clause-end
 returns-then-made-eq0-clause-end g c none =
     subst (λ (v : VipState). c.args.limit < v.board.machine.cycle + length_of v.board.rom v.board.machine) c.self.view_is
-    (c.run-made.ensures.none c.if-made-eq0.true)
+    ((rw c.cycles.ensures.value at c.run-made.ensures.none) c.if-made-eq0.true)
 
 pub returns-clause-end : goal.returns-clause-end
 returns-clause-end g c none = absurd (c.if-made-eq0.false none)

@@ -65,7 +65,7 @@ pub invariant_of-self-in-Done : goal.invariant_of-self-in-Done
 invariant_of-self-in-Done c =
     (made c.self.inside c.args.self.now c.to_boundary.new.self c.args.limit c.in-Done.name c.self.invariant c.self.view_is
     c.point_at-self-inside.result c.waits_by-self-inside.result c.count-pictures.result c.count.result
-    c.requires.met c.requires.runs c.in-Done.ensures.moved c.in-Done.ensures.pictures c.requires.limit c.in-Done.ensures.end.1
+    c.requires.met c.requires.runs c.in-Done.ensures.moved c.in-Done.ensures.pictures (rw c.cycles.ensures.value at c.cycles.ensures.bound) (rw c.cycles.ensures.value at c.in-Done.ensures.end).1
     c.point_at-self-inside.ensures c.waits_by-self-inside.ensures
     (c.count-pictures.ensures ∙ ap (λ (chip : Chip). chip.pictures.count) c.video.ensures)
     (c.count.ensures ∙ ap (λ (chip : Chip). chip.pictures.count) c.video-in-Done.ensures)).kept
@@ -74,7 +74,7 @@ pub returns-in-Done-clause-follows : goal.returns-in-Done-clause-follows
 returns-in-Done-clause-follows c =
     (made c.self.inside c.args.self.now c.to_boundary.new.self c.args.limit c.in-Done.name c.self.invariant c.self.view_is
     c.point_at-self-inside.result c.waits_by-self-inside.result c.count-pictures.result c.count.result
-    c.requires.met c.requires.runs c.in-Done.ensures.moved c.in-Done.ensures.pictures c.requires.limit c.in-Done.ensures.end.1
+    c.requires.met c.requires.runs c.in-Done.ensures.moved c.in-Done.ensures.pictures (rw c.cycles.ensures.value at c.cycles.ensures.bound) (rw c.cycles.ensures.value at c.in-Done.ensures.end).1
     c.point_at-self-inside.ensures c.waits_by-self-inside.ensures
     (c.count-pictures.ensures ∙ ap (λ (chip : Chip). chip.pictures.count) c.video.ensures)
     (c.count.ensures ∙ ap (λ (chip : Chip). chip.pictures.count) c.video-in-Done.ensures)).kept.follows
@@ -83,7 +83,7 @@ pub returns-in-Done-clause-moved : goal.returns-in-Done-clause-moved
 returns-in-Done-clause-moved c =
     (made c.self.inside c.args.self.now c.to_boundary.new.self c.args.limit c.in-Done.name c.self.invariant c.self.view_is
     c.point_at-self-inside.result c.waits_by-self-inside.result c.count-pictures.result c.count.result
-    c.requires.met c.requires.runs c.in-Done.ensures.moved c.in-Done.ensures.pictures c.requires.limit c.in-Done.ensures.end.1
+    c.requires.met c.requires.runs c.in-Done.ensures.moved c.in-Done.ensures.pictures (rw c.cycles.ensures.value at c.cycles.ensures.bound) (rw c.cycles.ensures.value at c.in-Done.ensures.end).1
     c.point_at-self-inside.ensures c.waits_by-self-inside.ensures
     (c.count-pictures.ensures ∙ ap (λ (chip : Chip). chip.pictures.count) c.video.ensures)
     (c.count.ensures ∙ ap (λ (chip : Chip). chip.pictures.count) c.video-in-Done.ensures)).steps
@@ -91,12 +91,12 @@ returns-in-Done-clause-moved c =
 pub returns-in-End-clause-end : goal.returns-in-End-clause-end
 returns-in-End-clause-end c =
     subst (λ (v : VipState). (End ≡ End) ↔ (c.args.limit < v.board.machine.cycle + length_of v.board.rom v.board.machine)) c.self.view_is
-    c.in-End.ensures.end
+    (rw c.cycles.ensures.value at c.in-End.ensures.end)
 
 pub returns-in-Done-clause-end : goal.returns-in-Done-clause-end
 returns-in-Done-clause-end c =
     subst (λ (v : VipState). (Done c.in-Done.name ≡ End) ↔ (c.args.limit < v.board.machine.cycle + length_of v.board.rom v.board.machine)) c.self.view_is
-    c.in-Done.ensures.end
+    (rw c.cycles.ensures.value at c.in-Done.ensures.end)
 
 pub to_boundary-requires : goal.to_boundary-requires
 to_boundary-requires c = c.self.invariant.follows.phase
