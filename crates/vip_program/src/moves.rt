@@ -19,6 +19,7 @@ use crate::line::{put_cycle, put_instruction};
 use vip_board::{Board, Move};
 use vip_byte::{Buffer, MOST_CYCLE, hex2, hex4, put, put_number};
 use vip_cpu::Cpu;
+use vip_text::Limit;
 use vip_video::LINE_CYCLES;
 
 /// The raster line of the present cycle, counted from reset.
@@ -29,15 +30,17 @@ fn raster_line(board: &Board) -> u64
 }
 
 /// Whether the next move is made: the board doesn't sleep, and the move ends at or before the limit.
-pub fn goes_on(board: &Board, limit: u64) -> bool
+pub fn goes_on(board: &Board, limit: Limit) -> bool
     requires within { board.now.machine.cycle ≤ limit }
-    ensures { result ≡ goes_on limit board.now.rom board.now.machine }
+    ensures goes { result ≡ goes_on limit board.now.rom board.now.machine }
+    ensures cycle { board.now.machine.cycle ≤ MOST_CYCLE }
 {
-    !board.sleeps() && board.next_length() <= limit - board.now()
+    let left = limit.cycles() - board.now();
+    !board.sleeps() && board.next_length() <= left
 }
 
 /// Whether the next move is made and is an idle cycle.
-fn idles(board: &Board, limit: u64) -> bool
+fn idles(board: &Board, limit: Limit) -> bool
     requires within { board.now.machine.cycle ≤ limit }
     ensures { result ≡ (goes_on limit board.now.rom board.now.machine && is_idle (case_of board.now.machine)) }
 {
@@ -45,7 +48,7 @@ fn idles(board: &Board, limit: u64) -> bool
 }
 
 /// Whether the next move is made and is a DMA cycle of a raster line, counted from reset.
-fn scans(board: &Board, line: u64, limit: u64) -> bool
+fn scans(board: &Board, line: u64, limit: Limit) -> bool
     requires within { board.now.machine.cycle ≤ limit }
     ensures { result ≡ (goes_on limit board.now.rom board.now.machine && is_scan line (case_of board.now.machine) board.now.machine) }
 {
@@ -53,14 +56,14 @@ fn scans(board: &Board, line: u64, limit: u64) -> bool
 }
 
 /// Makes the next move, which ends at or before the limit.
-pub fn make(board: &mut Board, limit: u64)
+pub fn make(board: &mut Board, limit: Limit)
     requires boundary { board.old.phase ≡ Boundary }
     requires goes { goes_on limit board.old.rom board.old.machine ≡ true }
     ensures moved { board.new ≡ moved board.old }
     ensures boundary { board.new.phase ≡ Boundary }
     ensures pictures { CarriesOn board.old board.new }
 {
-    let _ = board.to_boundary(limit);
+    let _ = board.to_boundary(limit.cycles());
 }
 
 /// Appends what the line of an interrupt says.
@@ -101,7 +104,7 @@ fn put_dma_byte(into: &mut Buffer, board: &Board)
 }
 
 /// Makes the idle cycles that come next, at most `count`, and answers how many.
-fn idle(board: &mut Board, count: u64, limit: u64) -> u64
+fn idle(board: &mut Board, count: u64, limit: Limit) -> u64
     requires boundary { board.old.phase ≡ Boundary }
     requires within { board.old.machine.cycle ≤ limit }
     ensures boundary { board.new.phase ≡ Boundary }
@@ -116,7 +119,7 @@ fn idle(board: &mut Board, count: u64, limit: u64) -> u64
 }
 
 /// Makes the DMA cycles of a raster line that come next, at most `count`, appends their bytes, and answers how many.
-fn scan(board: &mut Board, line: u64, count: u64, limit: u64, into: &mut Buffer) -> u64
+fn scan(board: &mut Board, line: u64, count: u64, limit: Limit, into: &mut Buffer) -> u64
     requires boundary { board.old.phase ≡ Boundary }
     requires within { board.old.machine.cycle ≤ limit }
     requires room { HasRoom into.old.items 45 }
@@ -166,10 +169,10 @@ pub fn move_text(board: &Board, into: &mut Buffer)
 }
 
 /// Makes the moves of the next line, at most `count` of them, and appends what it says of them. Answers how many.
-fn make_line(board: &mut Board, count: u64, limit: u64, into: &mut Buffer) -> u64
+fn make_line(board: &mut Board, count: u64, limit: Limit, into: &mut Buffer) -> u64
     requires boundary { board.old.phase ≡ Boundary }
     requires some { 0 < count }
-    requires limit { limit ≤ MOST_CYCLE }
+    requires cycle { board.old.machine.cycle ≤ MOST_CYCLE }
     requires within { board.old.machine.cycle ≤ limit }
     requires goes { goes_on limit board.old.rom board.old.machine ≡ true }
     requires room { HasRoom into.old.items 90 }
@@ -204,10 +207,10 @@ fn make_line(board: &mut Board, count: u64, limit: u64, into: &mut Buffer) -> u6
 }
 
 /// Makes the moves of the next line, at most `count` of them and at least one, and writes the line into an empty buffer. Answers how many.
-pub fn next_line(board: &mut Board, count: u64, limit: u64, into: &mut Buffer) -> u64
+pub fn next_line(board: &mut Board, count: u64, limit: Limit, into: &mut Buffer) -> u64
     requires boundary { board.old.phase ≡ Boundary }
     requires some { 0 < count }
-    requires limit { limit ≤ MOST_CYCLE }
+    requires cycle { board.old.machine.cycle ≤ MOST_CYCLE }
     requires within { board.old.machine.cycle ≤ limit }
     requires goes { goes_on limit board.old.rom board.old.machine ≡ true }
     requires empty { into.old.items ≡ [] }

@@ -8,8 +8,9 @@ use crate::labels::{next_place, put_labels};
 use crate::moves::{goes_on, next_line};
 use asm_core::Labels;
 use vip_board::Board;
-use vip_byte::{Buffer, MOST_CYCLE, add16};
+use vip_byte::{Buffer, add16};
 use vip_outside::{Failed, Sink};
+use vip_text::Limit;
 
 /// How the run of a program ended.
 #[derive(Clone, Copy)]
@@ -41,11 +42,10 @@ pub fn trace_moves<O: Sink>(
     board: &mut Board,
     labels: &Labels,
     count: u64,
-    limit: u64,
+    limit: Limit,
     out: &mut O,
 ) -> Result<u64, Failed>
     requires boundary { board.old.phase ≡ Boundary }
-    requires limit { limit ≤ MOST_CYCLE }
     requires within { board.old.machine.cycle ≤ limit }
     ensures { TraceAnswers labels.now count limit board.old board.new (O.meaning out.old) (O.meaning out.new) result }
 {
@@ -67,14 +67,13 @@ pub fn trace_moves<O: Sink>(
 pub fn show_trace<O: Sink>(
     board: &mut Board,
     labels: &Labels,
-    limit: u64,
+    limit: Limit,
     out: &mut O,
 ) -> Result<ProgramEnd, Failed>
     requires boundary { board.old.phase ≡ Boundary }
-    requires limit { limit ≤ MOST_CYCLE }
     requires within { board.old.machine.cycle ≤ limit }
     ensures { ShowAnswers (program_trace labels.now board.old limit) limit board.old (O.meaning out.old) (O.meaning out.new) result }
 {
-    trace_moves(board, labels, limit, limit, out)?;
+    trace_moves(board, labels, limit.cycles(), limit, out)?;
     Ok(ending(board))
 }

@@ -21,7 +21,7 @@ returns-in_err-put g c =
 
 pub returns-else-goes_on : goal.returns-else-goes_on
 returns-else-goes_on g c =
-    traces _ _ _ _ _ _ _ _ c.loop-made.invariant (none-made _ _ _ _ _ _ _ _ c.loop-made.invariant (sym c.goes_on.ensures ∙ c.if-goes_on.false))
+    traces _ _ _ _ _ _ _ _ c.loop-made.invariant (none-made _ _ _ _ _ _ _ _ c.loop-made.invariant (sym c.goes_on.ensures.goes ∙ c.if-goes_on.false))
 
 pub returns-after-loop-made : goal.returns-after-loop-made
 returns-after-loop-made g c = traces _ _ _ _ _ _ _ _ c.loop-made.invariant (none-asked _ _ _ _ _ _ _ _ c.loop-made.invariant c.loop-made-test.false)
