@@ -1,6 +1,6 @@
 //! The output of a trace and of pictures.
 
-ghost use Rattle.std.specs.Prelude.{◌≡◌, ◌≤◌, length};
+ghost use Rattle.std.specs.Prelude.{◌≡◌, length};
 ghost use Rattle.std.specs.Option.{option_map};
 ghost use Rattle.chip8_lang.specs.Editions.{rows_of};
 ghost use Rattle.chip8_lang.specs.Places.{pixels};
@@ -10,10 +10,10 @@ ghost use Rattle.vip_show.specs.Answers.{IsFresh, ShowAnswers, run_trace, run_pi
 ghost use Rattle.vip_show.specs.Run.{PieceAnswers, screen_told};
 
 use crate::run::{Shown, put_events};
-use vip_byte::{Buffer, MOST_CYCLE};
+use vip_byte::Buffer;
 use vip_outside::{Failed, Sink};
 use vip_relation::Run;
-use vip_text::{RunEnd, TraceColumns, screen_text};
+use vip_text::{Limit, RunEnd, TraceColumns, screen_text};
 
 /// Puts the screen at the last dispatch point, as one piece, or nothing where there was none.
 fn put_screen<O: Sink>(run: &Run, screen: &[u8], out: &mut O) -> Result<(), Failed>
@@ -33,12 +33,11 @@ fn put_screen<O: Sink>(run: &Run, screen: &[u8], out: &mut O) -> Result<(), Fail
 /// piece. A put that fails ends it.
 pub fn show_trace<O: Sink>(
     run: &mut Run,
-    limit: u64,
+    limit: Limit,
     columns: TraceColumns,
     out: &mut O,
 ) -> Result<RunEnd, Failed>
     requires fresh { IsFresh run.old }
-    requires limit { limit ≤ MOST_CYCLE }
     ensures { ShowAnswers run.old limit (run_trace columns run.old limit) (O.meaning out.old) (O.meaning out.new) result }
 {
     let tally = put_events(run, limit, Shown::Lines(columns), columns.screen, out)?;
@@ -49,9 +48,8 @@ pub fn show_trace<O: Sink>(
 }
 
 /// Runs a machine that begins, and puts each finished picture, each as one piece. A put that fails ends it.
-pub fn show_pictures<O: Sink>(run: &mut Run, limit: u64, out: &mut O) -> Result<RunEnd, Failed>
+pub fn show_pictures<O: Sink>(run: &mut Run, limit: Limit, out: &mut O) -> Result<RunEnd, Failed>
     requires fresh { IsFresh run.old }
-    requires limit { limit ≤ MOST_CYCLE }
     ensures { ShowAnswers run.old limit (run_pictures run.old limit) (O.meaning out.old) (O.meaning out.new) result }
 {
     Ok(put_events(run, limit, Shown::Pictures, false, out)?.end)

@@ -11,10 +11,9 @@ ghost use Rattle.vip_show.specs.Profile.{profile_pieces, views_of};
 use crate::counts::Counts;
 use crate::profile_text::{TEXT_SIZE, write_profile};
 use std::alloc::{AllocError, Global};
-use vip_byte::MOST_CYCLE;
 use vip_outside::{Failed, Sink};
 use vip_relation::{Met, Run, view_of};
-use vip_text::RunEnd;
+use vip_text::{Limit, RunEnd};
 
 /// All the memory that the profile of a run needs: tables by address, of any of which the processor may take for a pc, and room for the text.
 #[derive(Drop)]
@@ -47,9 +46,8 @@ fn count_first(run: &Run, counts: &mut Counts)
 }
 
 /// Counts the dispatch points of a run that begins, that of a saved state first, up to its limit or its stop point.
-fn count_points(run: &mut Run, limit: u64, counts: &mut Counts) -> RunEnd
+fn count_points(run: &mut Run, limit: Limit, counts: &mut Counts) -> RunEnd
     requires fresh { IsFresh run.old }
-    requires limit { limit ≤ MOST_CYCLE }
     ensures { CountsRun run.old limit counts.new result }
 {
     counts.clear();
@@ -68,12 +66,11 @@ fn count_points(run: &mut Run, limit: u64, counts: &mut Counts) -> RunEnd
 /// counted there before is gone.
 pub fn show_profile<O: Sink>(
     run: &mut Run,
-    limit: u64,
+    limit: Limit,
     profile: &mut Profile,
     out: &mut O,
 ) -> Result<RunEnd, Failed>
     requires fresh { IsFresh run.old }
-    requires limit { limit ≤ MOST_CYCLE }
     ensures { ShowAnswers run.old limit (profile_pieces run.old.edition (events_to run.old limit)) (O.meaning out.old) (O.meaning out.new) result }
 {
     let end = count_points(run, limit, &mut profile.counts);

@@ -1,6 +1,6 @@
 //! A run from event to event.
 
-ghost use Rattle.std.specs.Prelude.{◌≡◌, ◌≤◌, IfOk, IsTrue, length};
+ghost use Rattle.std.specs.Prelude.{◌≡◌, IfOk, IsTrue, length};
 ghost use Rattle.std.specs.Option.{option_map};
 ghost use Rattle.chip8_lang.specs.View.{view_at};
 ghost use Rattle.vip_outside.specs.Sink.{PutAnswers};
@@ -10,10 +10,10 @@ ghost use Rattle.vip_text.specs.Traces.{trace_line};
 ghost use Rattle.vip_show.specs.Answers.{IsFresh};
 ghost use Rattle.vip_show.specs.Run.{PieceAnswers, event_piece, RunAnswers};
 
-use vip_byte::{Buffer, MOST_CYCLE};
+use vip_byte::Buffer;
 use vip_outside::{Failed, Sink};
 use vip_relation::{Met, Run, Screen, dark};
-use vip_text::{RunEnd, TraceColumns, picture_text, trace_text};
+use vip_text::{Limit, RunEnd, TraceColumns, picture_text, trace_text};
 
 /// What is written of each event.
 #[derive(Clone, Copy)]
@@ -104,13 +104,12 @@ fn start_screen(run: &Run) -> Screen
 /// Runs a machine that begins up to its limit or its stop point, and puts what is shown of each event, each as one piece.
 pub fn put_events<O: Sink>(
     run: &mut Run,
-    limit: u64,
+    limit: Limit,
     shown: Shown,
     keeps_screen: bool,
     out: &mut O,
 ) -> Result<Tally, Failed>
     requires fresh { IsFresh run.old }
-    requires limit { limit ≤ MOST_CYCLE }
     ensures answer { RunAnswers shown limit run.old run.new (O.meaning out.old) (O.meaning out.new) result }
     ensures screen { IsTrue keeps_screen → IfOk result (λ tally. tally.screen.items ≡ run.new.shown) }
     ensures size { IfOk result (λ tally. length tally.screen.items ≡ screen_size run.new.edition) }

@@ -9,10 +9,10 @@ ghost use Rattle.vip_show.specs.Output.{lit_in_row, lit_in_rows};
 ghost use Rattle.vip_show.specs.Run.{lit_told};
 
 use crate::run::{Shown, put_events};
-use vip_byte::{Buffer, MOST_CYCLE};
+use vip_byte::Buffer;
 use vip_outside::{Failed, Sink};
 use vip_relation::Run;
-use vip_text::{ROW_SIZE, RunEnd, WIDTH, is_lit, summary_text};
+use vip_text::{Limit, ROW_SIZE, RunEnd, WIDTH, is_lit, summary_text};
 
 /// How much a pixel adds to a count of lit ones.
 fn count_of(lit: bool) -> u64
@@ -63,12 +63,11 @@ fn lit(run: &Run, screen: &[u8]) -> u64
 /// dispatch points and finished pictures it had, and how many pixels are lit at the last dispatch point.
 pub fn show_summary<O: Sink>(
     run: &mut Run,
-    limit: u64,
+    limit: Limit,
     number: u32,
     out: &mut O,
 ) -> Result<RunEnd, Failed>
     requires fresh { IsFresh run.old }
-    requires limit { limit ≤ MOST_CYCLE }
     ensures { ShowAnswers run.old limit (run_summary number run.old limit) (O.meaning out.old) (O.meaning out.new) result }
 {
     let tally = put_events(run, limit, Shown::Nothing, true, out)?;
