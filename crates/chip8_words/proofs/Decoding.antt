@@ -3,7 +3,8 @@ use Rattle.std.proofs.Common.{◌≡◌, ℕ, ◌+◌, ◌*◌, ◌/◌, ◌%◌
 use Rattle.std.proofs.lemmas.Bool.{cases_Bool, eqb-true, eqb-false}
 use Rattle.chip8_lang.specs.Decode.{arithmetic, instr_of_bytes, transfer}
 use Rattle.chip8_lang.specs.declared.instr.Instr.{Instr}
-use Rattle.chip8_words.specs.Codes.{IsValid, encoded, parts_of}
+use Rattle.chip8_words.specs.Codes.{IsValid, encoded}
+use Rattle.chip8_words.specs.Table.{parts_of}
 
 module _ (high kk : ℕ) (h : high < 256) (l : kk < 256) where
   abbrev Right : Instr → Type 0

@@ -1,10 +1,11 @@
 -- The parts of an opcode are read again from it.
 use Rattle.std.proofs.Common.{◌≡◌, ℕ, ◌+◌, ◌*◌, ◌/◌, ◌%◌, ◌≤◌, ◌==◌, Bool, true, false, cond, Some, arith, refl}
-use Rattle.chip8_words.specs.Codes.{IsValid, canonical, canonical_by, decoded, encoded, parts_of}
+use Rattle.chip8_words.specs.Codes.{IsValid, canonical, canonical_by, decoded, encoded}
+use Rattle.chip8_words.specs.Table.{opcode_of, parts_of}
 use Rattle.chip8_lang.specs.declared.instr.Instr.TheVariants as instr
 use Rattle.chip8_words.specs.declared.code.Op.{Op}
 use Rattle.chip8_words.specs.declared.table.Form.{Form}
-use Rattle.chip8_words.specs.declared.table.Form.TheVariants.{Clear, Return, Machine, Jump, Call, SkipEq, SkipNe, SkipSame, Load, Add, Copy, Or, And, Xor, Sum, Sub, Right, SubN, Left, SkipDiffer, Index, JumpPlus, Random, SkipDown, SkipUp, GetDelay, WaitKey, SetDelay, SetSound, AddIndex, Font, Decimal, Store, Fetch, Draw}
+use Rattle.chip8_words.specs.declared.table.Form.TheVariants.{Clear, Return, Machine, Jump, Call, SkipEq, SkipNe, Load, Add, Index, JumpPlus, Random, SkipDown, SkipUp, GetDelay, WaitKey, SetDelay, SetSound, AddIndex, Font, Decimal, Store, Fetch, Draw}
 
 -- the first digit of an opcode, its second and its low byte
 record Digits (opcode first x low : ℕ) : Type 0 where
@@ -43,6 +44,7 @@ as_other true ret number = refl
 as_other false true number = refl
 as_other false false number = refl
 
+-- the arm behind the others is for two registers
 again :
     (form : Form) (x y number opcode : ℕ) → IsValid (op form x y number) → opcode ≡ encoded (op form x y number)
     → decoded opcode ≡ Some (canonical_by form (op form x y number))
@@ -59,43 +61,10 @@ again SkipEq x y number opcode v is =
     let d = digits opcode 3 x number (omega (arith, is, v.y)) v.x v.number in rw (d.digit, d.second, d.byte, none v.y) refl
 again SkipNe x y number opcode v is =
     let d = digits opcode 4 x number (omega (arith, is, v.y)) v.x v.number in rw (d.digit, d.second, d.byte, none v.y) refl
-again SkipSame x y number opcode v is =
-    let d = digits opcode 5 x (16 * y + 0) (omega (arith, is, v.number)) v.x (omega (arith, v.y)) in
-    rw (d.digit, d.second, d.byte, upper y 0 (omega arith), lower y 0 (omega arith), none v.number) refl
 again Load x y number opcode v is =
     let d = digits opcode 6 x number (omega (arith, is, v.y)) v.x v.number in rw (d.digit, d.second, d.byte, none v.y) refl
 again Add x y number opcode v is =
     let d = digits opcode 7 x number (omega (arith, is, v.y)) v.x v.number in rw (d.digit, d.second, d.byte, none v.y) refl
-again Copy x y number opcode v is =
-    let d = digits opcode 8 x (16 * y + 0) (omega (arith, is, v.number)) v.x (omega (arith, v.y)) in
-    rw (d.digit, d.second, d.byte, upper y 0 (omega arith), lower y 0 (omega arith), none v.number) refl
-again Or x y number opcode v is =
-    let d = digits opcode 8 x (16 * y + 1) (omega (arith, is, v.number)) v.x (omega (arith, v.y)) in
-    rw (d.digit, d.second, d.byte, upper y 1 (omega arith), lower y 1 (omega arith), none v.number) refl
-again And x y number opcode v is =
-    let d = digits opcode 8 x (16 * y + 2) (omega (arith, is, v.number)) v.x (omega (arith, v.y)) in
-    rw (d.digit, d.second, d.byte, upper y 2 (omega arith), lower y 2 (omega arith), none v.number) refl
-again Xor x y number opcode v is =
-    let d = digits opcode 8 x (16 * y + 3) (omega (arith, is, v.number)) v.x (omega (arith, v.y)) in
-    rw (d.digit, d.second, d.byte, upper y 3 (omega arith), lower y 3 (omega arith), none v.number) refl
-again Sum x y number opcode v is =
-    let d = digits opcode 8 x (16 * y + 4) (omega (arith, is, v.number)) v.x (omega (arith, v.y)) in
-    rw (d.digit, d.second, d.byte, upper y 4 (omega arith), lower y 4 (omega arith), none v.number) refl
-again Sub x y number opcode v is =
-    let d = digits opcode 8 x (16 * y + 5) (omega (arith, is, v.number)) v.x (omega (arith, v.y)) in
-    rw (d.digit, d.second, d.byte, upper y 5 (omega arith), lower y 5 (omega arith), none v.number) refl
-again Right x y number opcode v is =
-    let d = digits opcode 8 x (16 * y + 6) (omega (arith, is, v.number)) v.x (omega (arith, v.y)) in
-    rw (d.digit, d.second, d.byte, upper y 6 (omega arith), lower y 6 (omega arith), none v.number) refl
-again SubN x y number opcode v is =
-    let d = digits opcode 8 x (16 * y + 7) (omega (arith, is, v.number)) v.x (omega (arith, v.y)) in
-    rw (d.digit, d.second, d.byte, upper y 7 (omega arith), lower y 7 (omega arith), none v.number) refl
-again Left x y number opcode v is =
-    let d = digits opcode 8 x (16 * y + 14) (omega (arith, is, v.number)) v.x (omega (arith, v.y)) in
-    rw (d.digit, d.second, d.byte, upper y 14 (omega arith), lower y 14 (omega arith), none v.number) refl
-again SkipDiffer x y number opcode v is =
-    let d = digits opcode 9 x (16 * y + 0) (omega (arith, is, v.number)) v.x (omega (arith, v.y)) in
-    rw (d.digit, d.second, d.byte, upper y 0 (omega arith), lower y 0 (omega arith), none v.number) refl
 again Index x y number opcode v is =
     let d = address opcode 10 number (omega (arith, is, v.x, v.y)) v.number in rw (d.digit, d.second, d.byte, whole number, none v.x, none v.y) refl
 again JumpPlus x y number opcode v is =
@@ -127,6 +96,9 @@ again Store x y number opcode v is =
     let d = digits opcode 15 x 0x55 (omega (arith, is, v.y, v.number)) v.x (omega arith) in rw (d.digit, d.second, d.byte, none v.y, none v.number) refl
 again Fetch x y number opcode v is =
     let d = digits opcode 15 x 0x65 (omega (arith, is, v.y, v.number)) v.x (omega arith) in rw (d.digit, d.second, d.byte, none v.y, none v.number) refl
+again form x y number opcode v is =
+    let d = digits opcode (opcode_of form / 4096) x (16 * y + opcode_of form % 16) (omega (arith, is, v.number)) v.x (omega (arith, v.y)) in
+    rw (d.digit, d.second, d.byte, upper y (opcode_of form % 16) (omega arith), lower y (opcode_of form % 16) (omega arith), none v.number) refl
 
 pub read_again : (op : Op) → IsValid op → decoded (encoded op) ≡ Some (canonical op)
 read_again op valid = again op.form op.x op.y op.number (encoded op) valid refl

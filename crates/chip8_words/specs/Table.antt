@@ -1,6 +1,9 @@
--- The table of the words: of each form of an instruction its mnemonic, its opcode and its operands (Cowgod's CHIP-8 Technical Reference, "Standard
+-- The table of the words: of each form of an instruction its mnemonic, its opcode and its operands, and its parts (Cowgod's CHIP-8 Technical Reference, "Standard
 -- Chip-8 Instructions"). `Decode` of the crate `chip8_lang` says which instruction an opcode is.
-use Rattle.std.specs.Prelude.{ℕ, List, [], ◌∷◌, codes}
+use Rattle.std.specs.Prelude.{ℕ, List, [], ◌∷◌, codes, Option, Some, None}
+use Rattle.chip8_lang.specs.declared.instr.Instr.{Instr}
+use Rattle.chip8_lang.specs.declared.instr.Instr.TheVariants as instr
+use Rattle.chip8_words.specs.declared.code.Op.{Op}
 use Rattle.chip8_words.specs.declared.table.Form.{Form}
 use Rattle.chip8_words.specs.declared.table.Form.TheVariants.{Clear, Return, Machine, Jump, Call, SkipEq, SkipNe, SkipSame, Load, Add, Copy, Or, And, Xor, Sum, Sub, Right, SubN, Left, SkipDiffer, Index, JumpPlus, Random, Draw, SkipDown, SkipUp, GetDelay, WaitKey, SetDelay, SetSound, AddIndex, Font, Decimal, Store, Fetch}
 use Rattle.chip8_words.specs.declared.table.TheConstants.{FORMS}
@@ -66,3 +69,44 @@ operands_of form = (row_of form).operands
 -- all forms, in the order of the table
 abbrev pub forms : List Form
 forms = FORMS
+
+abbrev parts : Form → ℕ → ℕ → ℕ → Option Op
+parts form x y number = Some (record { form = form; x = x; y = y; number = number })
+
+abbrev pub parts_of : Instr → Option Op
+parts_of instr.Clear = parts Clear 0 0 0
+parts_of instr.Return = parts Return 0 0 0
+parts_of (instr.Machine number) = parts Machine 0 0 number
+parts_of (instr.Jump number) = parts Jump 0 0 number
+parts_of (instr.Call number) = parts Call 0 0 number
+parts_of (instr.SkipEq x number) = parts SkipEq x 0 number
+parts_of (instr.SkipNe x number) = parts SkipNe x 0 number
+parts_of (instr.SkipSame x y) = parts SkipSame x y 0
+parts_of (instr.Load x number) = parts Load x 0 number
+parts_of (instr.Add x number) = parts Add x 0 number
+parts_of (instr.Copy x y) = parts Copy x y 0
+parts_of (instr.Or x y) = parts Or x y 0
+parts_of (instr.And x y) = parts And x y 0
+parts_of (instr.Xor x y) = parts Xor x y 0
+parts_of (instr.Sum x y) = parts Sum x y 0
+parts_of (instr.Sub x y) = parts Sub x y 0
+parts_of (instr.Right x y) = parts Right x y 0
+parts_of (instr.SubN x y) = parts SubN x y 0
+parts_of (instr.Left x y) = parts Left x y 0
+parts_of (instr.SkipDiffer x y) = parts SkipDiffer x y 0
+parts_of (instr.Index number) = parts Index 0 0 number
+parts_of (instr.JumpPlus number) = parts JumpPlus 0 0 number
+parts_of (instr.Random x number) = parts Random x 0 number
+parts_of (instr.Draw x y number) = parts Draw x y number
+parts_of (instr.SkipDown x) = parts SkipDown x 0 0
+parts_of (instr.SkipUp x) = parts SkipUp x 0 0
+parts_of (instr.GetDelay x) = parts GetDelay x 0 0
+parts_of (instr.WaitKey x) = parts WaitKey x 0 0
+parts_of (instr.SetDelay x) = parts SetDelay x 0 0
+parts_of (instr.SetSound x) = parts SetSound x 0 0
+parts_of (instr.AddIndex x) = parts AddIndex x 0 0
+parts_of (instr.Font x) = parts Font x 0 0
+parts_of (instr.Decimal x) = parts Decimal x 0 0
+parts_of (instr.Store x) = parts Store x 0 0
+parts_of (instr.Fetch x) = parts Fetch x 0 0
+parts_of (instr.Unknown opcode) = None

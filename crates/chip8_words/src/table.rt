@@ -1,7 +1,10 @@
-//! The table of the words.
+//! The table of the words, and which row an instruction has.
 
 ghost use Rattle.std.specs.Prelude.{◌≡◌};
-ghost use Rattle.chip8_words.specs.Table.{mnemonic_of, opcode_of, operands_of};
+ghost use Rattle.chip8_words.specs.Table.{mnemonic_of, opcode_of, operands_of, parts_of};
+
+use crate::code::Op;
+use chip8_lang::Instr;
 
 /// What stands as an operand.
 #[derive(Clone, Copy)]
@@ -220,4 +223,55 @@ impl Form {
     {
         self.row().2
     }
+}
+
+fn op(form: Form, x: u8, y: u8, number: u16) -> Op
+    ensures { result ≡ record { form = form; x = x; y = y; number = number } }
+{
+    Op { form, x, y, number }
+}
+
+/// The parts of an instruction, and none of an opcode that the language doesn't know.
+pub(crate) fn parts(instr: Instr) -> Option<Op>
+    ensures { result ≡ parts_of instr }
+{
+    let parts = match instr {
+        Instr::Clear => op(Form::Clear, 0, 0, 0),
+        Instr::Return => op(Form::Return, 0, 0, 0),
+        Instr::Machine(number) => op(Form::Machine, 0, 0, number),
+        Instr::Jump(number) => op(Form::Jump, 0, 0, number),
+        Instr::Call(number) => op(Form::Call, 0, 0, number),
+        Instr::SkipEq(x, number) => op(Form::SkipEq, x, 0, u16::from(number)),
+        Instr::SkipNe(x, number) => op(Form::SkipNe, x, 0, u16::from(number)),
+        Instr::SkipSame(x, y) => op(Form::SkipSame, x, y, 0),
+        Instr::Load(x, number) => op(Form::Load, x, 0, u16::from(number)),
+        Instr::Add(x, number) => op(Form::Add, x, 0, u16::from(number)),
+        Instr::Copy(x, y) => op(Form::Copy, x, y, 0),
+        Instr::Or(x, y) => op(Form::Or, x, y, 0),
+        Instr::And(x, y) => op(Form::And, x, y, 0),
+        Instr::Xor(x, y) => op(Form::Xor, x, y, 0),
+        Instr::Sum(x, y) => op(Form::Sum, x, y, 0),
+        Instr::Sub(x, y) => op(Form::Sub, x, y, 0),
+        Instr::Right(x, y) => op(Form::Right, x, y, 0),
+        Instr::SubN(x, y) => op(Form::SubN, x, y, 0),
+        Instr::Left(x, y) => op(Form::Left, x, y, 0),
+        Instr::SkipDiffer(x, y) => op(Form::SkipDiffer, x, y, 0),
+        Instr::Index(number) => op(Form::Index, 0, 0, number),
+        Instr::JumpPlus(number) => op(Form::JumpPlus, 0, 0, number),
+        Instr::Random(x, number) => op(Form::Random, x, 0, u16::from(number)),
+        Instr::Draw(x, y, number) => op(Form::Draw, x, y, u16::from(number)),
+        Instr::SkipDown(x) => op(Form::SkipDown, x, 0, 0),
+        Instr::SkipUp(x) => op(Form::SkipUp, x, 0, 0),
+        Instr::GetDelay(x) => op(Form::GetDelay, x, 0, 0),
+        Instr::WaitKey(x) => op(Form::WaitKey, x, 0, 0),
+        Instr::SetDelay(x) => op(Form::SetDelay, x, 0, 0),
+        Instr::SetSound(x) => op(Form::SetSound, x, 0, 0),
+        Instr::AddIndex(x) => op(Form::AddIndex, x, 0, 0),
+        Instr::Font(x) => op(Form::Font, x, 0, 0),
+        Instr::Decimal(x) => op(Form::Decimal, x, 0, 0),
+        Instr::Store(x) => op(Form::Store, x, 0, 0),
+        Instr::Fetch(x) => op(Form::Fetch, x, 0, 0),
+        Instr::Unknown(_) => return None,
+    };
+    Some(parts)
 }
