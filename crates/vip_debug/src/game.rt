@@ -12,8 +12,8 @@ ghost use Rattle.vip_debug.specs.GameLaws.{GameLeads, leads-on};
 use crate::moves::{Change, go};
 use crate::target::Target;
 use vip_board::{Board, Moved, Stops};
-use vip_byte::MOST_CYCLE;
 use vip_relation::Vip;
+use vip_text::Limit;
 use vip_words::Running;
 
 /// A machine that runs a game. Its run ends at the stop point.
@@ -35,20 +35,19 @@ impl Target for Game<'_> {
         self.vip.board()
     }
 
-    fn one_move(&mut self, limit: u64) -> Moved {
+    fn one_move(&mut self, limit: Limit) -> Moved {
         self.vip.one_move(limit)
     }
 
-    fn move_on<S: Stops>(&mut self, limit: u64, stops: S) -> u64 {
+    fn move_on<S: Stops>(&mut self, limit: Limit, stops: S) -> u64 {
         self.vip.move_on(limit, stops)
     }
 }
 
 /// Runs the board of a game as a command says, up to the limit and the stop point. Answers whether the command is completed; what shows it then
 /// besides the board is in `change`.
-pub fn run_game(vip: &mut Vip, running: Running, limit: u64, change: &mut Change) -> bool
+pub fn run_game(vip: &mut Vip, running: Running, limit: Limit, change: &mut Change) -> bool
     requires follows { Follows vip.old }
-    requires limit { limit ≤ MOST_CYCLE }
     requires within { vip.old.board.machine.cycle ≤ limit }
     ensures comes { let r = run_at vip.old vip.old.moves in Arrives limit r (came r limit running) vip.new.board result }
     ensures moved { HasMoved Leads (came (run_at vip.old vip.old.moves) limit running).moves vip.old vip.new }

@@ -6,14 +6,13 @@ ghost use Rattle.vip_relation.specs.Follows.{Follows};
 ghost use Rattle.vip_debug.specs.Answers.{has_pc};
 ghost use Rattle.vip_debug.specs.Parts.{Arrives, FindAnswers, PassAnswers, TellsPresent, points_left};
 
-use vip_byte::MOST_CYCLE;
 use vip_relation::{Met, Vip};
+use vip_text::Limit;
 use vip_words::Seeking;
 
 /// Runs to the next dispatch point, past pictures, or to the end of the run. Answers whether there is one.
-fn pass(vip: &mut Vip, limit: u64) -> bool
+fn pass(vip: &mut Vip, limit: Limit) -> bool
     requires follows { Follows vip.old }
-    requires limit { limit ≤ MOST_CYCLE }
     requires within { vip.old.board.machine.cycle ≤ limit }
     ensures follows { Follows vip.new }
     ensures answer { PassAnswers limit vip.old vip.new result }
@@ -29,9 +28,8 @@ fn pass(vip: &mut Vip, limit: u64) -> bool
 }
 
 /// Runs to the so-many-th next dispatch point. Answers whether there is one.
-fn pass_points(vip: &mut Vip, points: u32, limit: u64) -> bool
+fn pass_points(vip: &mut Vip, points: u32, limit: Limit) -> bool
     requires follows { Follows vip.old }
-    requires limit { limit ≤ MOST_CYCLE }
     requires within { vip.old.board.machine.cycle ≤ limit }
     ensures follows { Follows vip.new }
     ensures answer { FindAnswers limit vip.old vip.new (slice_get (points_left vip.old limit) (points - 1)) result }
@@ -56,9 +54,8 @@ fn is_at_pc(vip: &Vip, pc: u16) -> bool
 }
 
 /// Runs to the next dispatch point with this pc. Answers whether there is one.
-fn pass_to_pc(vip: &mut Vip, pc: u16, limit: u64) -> bool
+fn pass_to_pc(vip: &mut Vip, pc: u16, limit: Limit) -> bool
     requires follows { Follows vip.old }
-    requires limit { limit ≤ MOST_CYCLE }
     requires within { vip.old.board.machine.cycle ≤ limit }
     ensures follows { Follows vip.new }
     ensures answer { FindAnswers limit vip.old vip.new (find (has_pc vip.old pc) (points_left vip.old limit)) result }
@@ -72,9 +69,8 @@ fn pass_to_pc(vip: &mut Vip, pc: u16, limit: u64) -> bool
 }
 
 /// Runs to the dispatch point that a command looks for, or to the end of the run. Answers whether there is one.
-pub fn seek(vip: &mut Vip, seeking: Seeking, limit: u64) -> bool
+pub fn seek(vip: &mut Vip, seeking: Seeking, limit: Limit) -> bool
     requires follows { Follows vip.old }
-    requires limit { limit ≤ MOST_CYCLE }
     requires within { vip.old.board.machine.cycle ≤ limit }
     ensures follows { Follows vip.new }
     ensures arrives { Arrives limit seeking vip.old vip.new result }

@@ -10,15 +10,15 @@ use crate::bytes::{Stretch, read_stretch};
 use crate::target::Target;
 use crate::watched::Watched;
 use vip_board::{Board, Moved};
-use vip_byte::{Buffer, MOST_CYCLE};
+use vip_byte::Buffer;
 use vip_program::{move_text, next_place};
+use vip_text::Limit;
 use vip_words::Running;
 
 /// Makes at least one move, and at most so many, of which there is one. Answers how many; none comes exactly where the run has ended or the next
 /// move would end after the limit, and changes nothing.
-fn make_some<T: Target>(target: &mut T, most: u64, limit: u64) -> u64
+fn make_some<T: Target>(target: &mut T, most: u64, limit: Limit) -> u64
     requires boundary { (T.seen target.old).phase ≡ Phase.Boundary }
-    requires limit { limit ≤ MOST_CYCLE }
     requires within { (T.seen target.old).machine.cycle ≤ limit }
     requires some { 0 < most }
     requires few { most ≤ 0xFFFFFFFF }
@@ -28,7 +28,8 @@ fn make_some<T: Target>(target: &mut T, most: u64, limit: u64) -> u64
     ensures moved { 0 < result → Makes (λ regs memory. ⊥) (T.ends target.old) limit (T.seen target.old) (T.seen target.new) result × (T.ends target.new ≡ T.ends target.old) × T.leads result target.old target.new }
 {
     // each move takes a cycle at least
-    let made = target.move_on(limit.min(target.board().now() + most), ());
+    let end = limit.cycles().min(target.board().now() + most);
+    let made = target.move_on(Limit::up_to(end), ());
     if made > 0 {
         return made;
     }
@@ -39,9 +40,8 @@ fn make_some<T: Target>(target: &mut T, most: u64, limit: u64) -> u64
 }
 
 /// Makes so many moves, or those up to the limit and the end of the run. Answers whether it made all.
-fn make_moves<T: Target>(target: &mut T, moves: u32, limit: u64) -> bool
+fn make_moves<T: Target>(target: &mut T, moves: u32, limit: Limit) -> bool
     requires boundary { (T.seen target.old).phase ≡ Phase.Boundary }
-    requires limit { limit ≤ MOST_CYCLE }
     requires within { (T.seen target.old).machine.cycle ≤ limit }
     ensures comes { let r = run_from (T.ends target.old) (T.seen target.old) in Arrives limit r (after_steps r limit moves) (T.seen target.new) result }
     ensures moved { let r = run_from (T.ends target.old) (T.seen target.old) in HasMoved T.leads (after_steps r limit moves).moves target.old target.new }
@@ -58,14 +58,13 @@ fn make_moves<T: Target>(target: &mut T, moves: u32, limit: u64) -> bool
 }
 
 /// Makes the moves that end at or before a cycle, up to the limit and the end of the run. A cycle in the past makes none.
-fn move_to_cycle<T: Target>(target: &mut T, cycle: u64, limit: u64)
+fn move_to_cycle<T: Target>(target: &mut T, cycle: u64, limit: Limit)
     requires boundary { (T.seen target.old).phase ≡ Phase.Boundary }
-    requires limit { limit ≤ MOST_CYCLE }
     requires within { (T.seen target.old).machine.cycle ≤ limit }
     ensures comes { let r = run_from (T.ends target.old) (T.seen target.old) in Arrives limit r (at_cycle r limit cycle) (T.seen target.new) (nat_le cycle limit) }
     ensures moved { let r = run_from (T.ends target.old) (T.seen target.old) in HasMoved T.leads (at_cycle r limit cycle).moves target.old target.new }
 {
-    let last = cycle.min(limit);
+    let last = Limit::up_to(cycle.min(limit.cycles()));
     while target.move_on(last, ()) > 0 {}
 }
 
@@ -80,9 +79,8 @@ fn starts_at(board: &Board, address: u16) -> bool
 
 /// Makes at least one move, and moves until the next one is the instruction at an address, up to the limit and the end of the run. Answers
 /// whether it came there.
-fn move_to_address<T: Target>(target: &mut T, address: u16, limit: u64) -> bool
+fn move_to_address<T: Target>(target: &mut T, address: u16, limit: Limit) -> bool
     requires boundary { (T.seen target.old).phase ≡ Phase.Boundary }
-    requires limit { limit ≤ MOST_CYCLE }
     requires within { (T.seen target.old).machine.cycle ≤ limit }
     ensures comes { let r = run_from (T.ends target.old) (T.seen target.old) in Arrives limit r (at_address r limit address) (T.seen target.new) result }
     ensures moved { let r = run_from (T.ends target.old) (T.seen target.old) in HasMoved T.leads (at_address r limit address).moves target.old target.new }
@@ -123,11 +121,10 @@ fn move_to_change<T: Target>(
     target: &mut T,
     address: u16,
     count: u32,
-    limit: u64,
+    limit: Limit,
     change: &mut Change,
 ) -> bool
     requires boundary { (T.seen target.old).phase ≡ Phase.Boundary }
-    requires limit { limit ≤ MOST_CYCLE }
     requires within { (T.seen target.old).machine.cycle ≤ limit }
     ensures comes { let r = run_from (T.ends target.old) (T.seen target.old) in Arrives limit r (at_change r limit address count) (T.seen target.new) result }
     ensures moved { let r = run_from (T.ends target.old) (T.seen target.old) in HasMoved T.leads (at_change r limit address count).moves target.old target.new }
@@ -135,7 +132,7 @@ fn move_to_change<T: Target>(
 {
     read_stretch(target.board().memory(), address, count, &mut change.before);
     let watched = Watched { address, count };
-    loop {
+    while target.board().now() < limit.cycles() {
         if !watched.may_change_next(target.board()) {
             if target.move_on(limit, watched) == 0 {
                 return false;
@@ -153,13 +150,13 @@ fn move_to_change<T: Target>(
             return true;
         }
     }
+    false
 }
 
 /// Runs a board as a command says, up to the limit and the end of its run. Answers whether the command is completed; what shows it then besides
 /// the board is in `change`.
-pub fn go<T: Target>(target: &mut T, running: Running, limit: u64, change: &mut Change) -> bool
+pub fn go<T: Target>(target: &mut T, running: Running, limit: Limit, change: &mut Change) -> bool
     requires boundary { (T.seen target.old).phase ≡ Phase.Boundary }
-    requires limit { limit ≤ MOST_CYCLE }
     requires within { (T.seen target.old).machine.cycle ≤ limit }
     ensures comes { let r = run_from (T.ends target.old) (T.seen target.old) in Arrives limit r (came r limit running) (T.seen target.new) result }
     ensures moved { let r = run_from (T.ends target.old) (T.seen target.old) in HasMoved T.leads (came r limit running).moves target.old target.new }
@@ -169,7 +166,7 @@ pub fn go<T: Target>(target: &mut T, running: Running, limit: u64, change: &mut 
         Running::Step(moves) => make_moves(target, moves, limit),
         Running::To(cycle) => {
             move_to_cycle(target, cycle, limit);
-            cycle <= limit
+            cycle <= limit.cycles()
         }
         Running::At(address) => move_to_address(target, address, limit),
         Running::Watch(address, count) => move_to_change(target, address, count, limit, change),

@@ -17,10 +17,10 @@ use crate::moves::{Change, go};
 use crate::target::Target;
 use asm_core::Labels;
 use vip_board::{Board, Moved, Stops};
-use vip_byte::{Buffer, MOST_CYCLE};
+use vip_byte::Buffer;
 use vip_outside::{Failed, Sink};
 use vip_program::{ProgramEnd, ending, put_labels, trace_moves};
-use vip_text::idle_text;
+use vip_text::{Limit, idle_text};
 use vip_words::{Command, Commands, Running};
 
 /// A board that runs any program. Its run ends where the processor idles with the display off, since no signal can wake it there.
@@ -42,26 +42,25 @@ impl Target for Program<'_> {
         self.board
     }
 
-    fn one_move(&mut self, limit: u64) -> Moved {
+    fn one_move(&mut self, limit: Limit) -> Moved {
         match ending(self.board) {
             ProgramEnd::Idle(_) => Moved::End,
-            ProgramEnd::AtLimit => self.board.to_boundary(limit),
+            ProgramEnd::AtLimit => self.board.to_boundary(limit.cycles()),
         }
     }
 
-    fn move_on<S: Stops>(&mut self, limit: u64, stops: S) -> u64 {
+    fn move_on<S: Stops>(&mut self, limit: Limit, stops: S) -> u64 {
         match ending(self.board) {
             ProgramEnd::Idle(_) => 0,
-            ProgramEnd::AtLimit => self.board.run(limit, stops),
+            ProgramEnd::AtLimit => self.board.run(limit.cycles(), stops),
         }
     }
 }
 
 /// Runs a board as a command says, up to the limit and the end of its run. Answers whether the command is completed; what shows it then besides
 /// the board is in `change`.
-fn run_program(board: &mut Board, running: Running, limit: u64, change: &mut Change) -> bool
+fn run_program(board: &mut Board, running: Running, limit: Limit, change: &mut Change) -> bool
     requires boundary { board.old.phase ≡ Phase.Boundary }
-    requires limit { limit ≤ MOST_CYCLE }
     requires within { board.old.machine.cycle ≤ limit }
     ensures comes { let r = run_from sleeps board.old in Arrives limit r (came r limit running) board.new result }
     ensures shown { let r = run_from sleeps board.old in result ≡ true → IsShown running r (came r limit running).moves change.new }
@@ -95,11 +94,10 @@ fn put_steps<O: Sink>(
     board: &mut Board,
     labels: &Labels,
     count: u32,
-    limit: u64,
+    limit: Limit,
     out: &mut O,
 ) -> Result<(), Failed>
     requires boundary { board.old.phase ≡ Phase.Boundary }
-    requires limit { limit ≤ MOST_CYCLE }
     requires within { board.old.machine.cycle ≤ limit }
     ensures { let s = board.old in OneAnswers limit (ran_lines s.rom s.script limit labels.now (Running.Step count)) (comes_to s.rom s.script limit (Running.Step count)) s board.new (O.meaning out.old) (O.meaning out.new) result }
 {
@@ -132,11 +130,10 @@ fn put_going<O: Sink>(
     board: &mut Board,
     labels: &Labels,
     running: Running,
-    limit: u64,
+    limit: Limit,
     out: &mut O,
 ) -> Result<(), Failed>
     requires boundary { board.old.phase ≡ Phase.Boundary }
-    requires limit { limit ≤ MOST_CYCLE }
     requires within { board.old.machine.cycle ≤ limit }
     ensures { let s = board.old in OneAnswers limit (gone_lines s.rom s.script limit labels.now running) (comes_to s.rom s.script limit running) s board.new (O.meaning out.old) (O.meaning out.new) result }
 {
@@ -154,11 +151,10 @@ fn put_running<O: Sink>(
     board: &mut Board,
     labels: &Labels,
     running: Running,
-    limit: u64,
+    limit: Limit,
     out: &mut O,
 ) -> Result<(), Failed>
     requires boundary { board.old.phase ≡ Phase.Boundary }
-    requires limit { limit ≤ MOST_CYCLE }
     requires within { board.old.machine.cycle ≤ limit }
     ensures { let s = board.old in OneAnswers limit (ran_lines s.rom s.script limit labels.now running) (comes_to s.rom s.script limit running) s board.new (O.meaning out.old) (O.meaning out.new) result }
 {
@@ -173,11 +169,10 @@ fn run_command<O: Sink>(
     board: &mut Board,
     labels: &Labels,
     command: Command,
-    limit: u64,
+    limit: Limit,
     out: &mut O,
 ) -> Result<(), Failed>
     requires boundary { board.old.phase ≡ Phase.Boundary }
-    requires limit { limit ≤ MOST_CYCLE }
     requires within { board.old.machine.cycle ≤ limit }
     ensures { let s = board.old in OneAnswers limit (program_pieces s.rom s.script limit labels.now command) (machine_after s.rom s.script limit command) s board.new (O.meaning out.old) (O.meaning out.new) result }
 {
@@ -198,11 +193,10 @@ pub fn run_program_commands<O: Sink>(
     board: &mut Board,
     commands: &Commands,
     labels: &Labels,
-    limit: u64,
+    limit: Limit,
     out: &mut O,
 ) -> Result<ProgramEnd, Failed>
     requires boundary { board.old.phase ≡ Phase.Boundary }
-    requires limit { limit ≤ MOST_CYCLE }
     requires within { board.old.machine.cycle ≤ limit }
     ensures { ProgramAnswers labels.now limit commands.now board.old board.new (O.meaning out.old) (O.meaning out.new) result }
 {

@@ -17,10 +17,10 @@ use crate::moves::Change;
 use crate::show::{put_screen, put_state};
 use asm_core::Labels;
 use chip8_lang::StopRecord;
-use vip_byte::{Buffer, MOST_CYCLE};
+use vip_byte::Buffer;
 use vip_outside::{Failed, Sink};
 use vip_relation::Vip;
-use vip_text::{PLAIN, trace_text};
+use vip_text::{Limit, PLAIN, trace_text};
 use vip_words::{Command, Commands, Running, Seeking, Telling};
 
 /// How the commands ended.
@@ -59,11 +59,10 @@ fn put_point<O: Sink>(vip: &Vip, out: &mut O) -> Result<(), Failed>
 fn put_running<O: Sink>(
     vip: &mut Vip,
     running: Running,
-    limit: u64,
+    limit: Limit,
     out: &mut O,
 ) -> Result<(), Failed>
     requires follows { Follows vip.old }
-    requires limit { limit ≤ MOST_CYCLE }
     requires within { vip.old.board.machine.cycle ≤ limit }
     ensures follows { Follows vip.new }
     ensures makes { Makes limit vip.old vip.new (ran (begun vip.old) limit running (place_of vip.old)).place }
@@ -83,11 +82,10 @@ fn put_running<O: Sink>(
 fn put_seeking<O: Sink>(
     vip: &mut Vip,
     seeking: Seeking,
-    limit: u64,
+    limit: Limit,
     out: &mut O,
 ) -> Result<(), Failed>
     requires follows { Follows vip.old }
-    requires limit { limit ≤ MOST_CYCLE }
     requires within { vip.old.board.machine.cycle ≤ limit }
     ensures follows { Follows vip.new }
     ensures makes { Makes limit vip.old vip.new (sought (begun vip.old) limit seeking (place_of vip.old)).place }
@@ -129,11 +127,10 @@ fn run_command<O: Sink>(
     vip: &mut Vip,
     labels: &Labels,
     command: Command,
-    limit: u64,
+    limit: Limit,
     out: &mut O,
 ) -> Result<(), Failed>
     requires follows { Follows vip.old }
-    requires limit { limit ≤ MOST_CYCLE }
     requires within { vip.old.board.machine.cycle ≤ limit }
     ensures follows { Follows vip.new }
     ensures makes { Makes limit vip.old vip.new (place_with (begun vip.old) limit command (place_of vip.old)) }
@@ -162,14 +159,13 @@ pub fn run_commands<O: Sink>(
     vip: &mut Vip,
     commands: &Commands,
     labels: &Labels,
-    limit: u64,
+    limit: Limit,
     out: &mut O,
 ) -> DebugEnd
-    requires { limit ≤ MOST_CYCLE }
     ensures follows { Follows vip.new }
     ensures answer { DebugAnswers labels.now (begun vip.old) (max limit vip.old.board.machine.cycle) commands.now (place_of vip.old) vip.new (O.meaning out.old) (O.meaning out.new) result }
 {
-    let limit = limit.max(vip.board().now());
+    let limit = Limit::up_to(limit.cycles().max(vip.board().now()));
     for entry in commands.as_slice() {
         if let Err(_) = put_echo(entry, out) {
             return DebugEnd::WriteFault;

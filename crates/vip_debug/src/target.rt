@@ -8,7 +8,7 @@ ghost use Rattle.vip_cpu.specs.declared.cpu.Phase.{Phase};
 ghost use Rattle.vip_debug.specs.TargetRun.{Makes, Rests};
 
 use vip_board::{Board, Moved, Stops};
-use vip_byte::MOST_CYCLE;
+use vip_text::Limit;
 
 /// A board that goes along a run, move by move, up to an end of the run.
 pub trait Target {
@@ -26,9 +26,8 @@ pub trait Target {
 
     /// Makes the next move and names it. `End` comes exactly where the run has ended or the move would end after cycle `limit`, and changes
     /// nothing.
-    fn one_move(&mut self, limit: u64) -> Moved
+    fn one_move(&mut self, limit: Limit) -> Moved
         requires boundary { (seen self.old).phase ≡ Phase.Boundary }
-        requires limit { limit ≤ MOST_CYCLE }
         ensures end { (result ≡ Moved.End) ↔ Rests (ends self.old) limit (seen self.old) }
         ensures kept { result ≡ Moved.End → self.new ≡ self.old }
         ensures moved { IfDone result (λ _. (seen self.new ≡ moved (seen self.old)) × (ends self.new ≡ ends self.old) × leads 1 self.old self.new) };
@@ -36,9 +35,8 @@ pub trait Target {
     /// Makes some of the next moves: none behind which one of `stops` comes next, at which the run ends, or which ends after cycle `limit`, but for
     /// the last one, which ends by then too. Answers how many. None comes exactly where the run has ended or the next move would end after
     /// `limit`, and changes nothing.
-    fn move_on<S: Stops>(&mut self, limit: u64, stops: S) -> u64
+    fn move_on<S: Stops>(&mut self, limit: Limit, stops: S) -> u64
         requires boundary { (seen self.old).phase ≡ Phase.Boundary }
-        requires limit { limit ≤ MOST_CYCLE }
         ensures end { (result ≡ 0) ↔ Rests (ends self.old) limit (seen self.old) }
         ensures kept { result ≡ 0 → self.new ≡ self.old }
         ensures moved { 0 < result → Makes (S.stands stops) (ends self.old) limit (seen self.old) (seen self.new) result × (ends self.new ≡ ends self.old) × leads result self.old self.new };

@@ -5,8 +5,8 @@ use Rattle.vip_debug.specs.Commands.{bytes_at}
 use Rattle.vip_debug.proofs.TargetMoving.{Seeking}
 use Rattle.vip_debug.proofs.moves.move_to_change.Given as goal
 
-abbrev pub invariant-loop-target : goal.invariant-loop-target
-invariant-loop-target g l =
+abbrev pub invariant-loop-limit : goal.invariant-loop-limit
+invariant-loop-limit g l =
     let r = run_from (g.T.Target.ends l.fn.target) (g.T.Target.seen l.fn.target) in
     record {
       seeking : Seeking g.T.Target.seen g.T.Target.ends g.T.Target.leads l.limit (λ k. has_changed l.address l.count (bytes_at r 0) (bytes_at r k)) l.fn.target
@@ -14,5 +14,5 @@ invariant-loop-target g l =
       before : l.change.before.items ≡ stretch (bytes_at r 0) l.address l.count;
     }
 
-abbrev pub decreases-loop-target : goal.decreases-loop-target
-decreases-loop-target g l = l.limit - (g.T.Target.seen l.target).machine.cycle
+abbrev pub decreases-loop-limit : goal.decreases-loop-limit
+decreases-loop-limit g l = l.limit - (g.T.Target.seen l.target).machine.cycle

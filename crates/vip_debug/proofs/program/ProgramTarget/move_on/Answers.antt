@@ -8,12 +8,12 @@ returns-in-Idle-clause-end g c = (λ e. inl (asleep c.args.self.now.board.now.ma
 pub returns-in-AtLimit-clause-end : goal.returns-in-AtLimit-clause-end
 returns-in-AtLimit-clause-end g c =
     rests-none _ c.args.limit c.args.self.now.board.now c.run.new.self c.run.result
-    (awake c.args.self.now.board.now.machine (sym c.in-AtLimit.is ∙ c.ending.ensures)) c.run.ensures.made c.run.ensures.none
+    (awake c.args.self.now.board.now.machine (sym c.in-AtLimit.is ∙ c.ending.ensures)) (rw c.cycles.ensures.value at c.run.ensures.made) (rw c.cycles.ensures.value at c.run.ensures.none)
 
 pub returns-in-AtLimit-clause-moved : goal.returns-in-AtLimit-clause-moved
 returns-in-AtLimit-clause-moved g c some = (
   program-makes _ c.args.limit c.args.self.now.board.now c.run.new.self c.run.result
-      (awake c.args.self.now.board.now.machine (sym c.in-AtLimit.is ∙ c.ending.ensures)) c.run.ensures.made some,
+      (awake c.args.self.now.board.now.machine (sym c.in-AtLimit.is ∙ c.ending.ensures)) (rw c.cycles.ensures.value at c.run.ensures.made) some,
   refl,
   refl,
 )

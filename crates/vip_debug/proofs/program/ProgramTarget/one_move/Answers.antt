@@ -8,7 +8,7 @@ returns-in-Idle-clause-end c = (λ e. inl (asleep c.args.self.now.board.now.mach
 pub returns-in-AtLimit-clause-end : goal.returns-in-AtLimit-clause-end
 returns-in-AtLimit-clause-end c =
     rests-awake c.args.limit c.args.self.now.board.now c.to_boundary.result (awake c.args.self.now.board.now.machine (sym c.in-AtLimit.is ∙ c.ending.ensures))
-    c.to_boundary.ensures.end
+    (rw c.cycles.ensures.value at c.to_boundary.ensures.end)
 
 pub returns-in-AtLimit-clause-moved : goal.returns-in-AtLimit-clause-moved
 returns-in-AtLimit-clause-moved c =
