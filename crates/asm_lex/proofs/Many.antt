@@ -6,14 +6,15 @@ use Rattle.std.proofs.lemmas.Bool.{and_parts, and_from, and_right, cond-false, n
 use Rattle.asm_lex.specs.Bytes.{is_comma, is_name, is_reserved, spells}
 use Rattle.asm_lex.specs.Parts.{trimmed, operands_in, without_leading_blanks, without_trailing_blanks}
 use Rattle.asm_lex.specs.Expressions.{is_expression, sum_in, written_value, number_in, is_here}
-use Rattle.asm_lex.specs.Words.{number_written, takes, register_given, gives_register, meaning_of, coded}
+use Rattle.asm_lex.specs.Words.{Numbers, numbers_of, are_so_many, may_stand, number_written, takes, register_given, gives_register, meaning_of, coded}
+use Rattle.asm_lex.specs.Words.Numbers.{Zero, OneOrMore}
 use Rattle.asm_lex.specs.Names.{Names, is_number}
 use Rattle.asm_lex.specs.declared.shape.Isa.{Isa}
 use Rattle.asm_lex.specs.declared.shape.Isa.TheVariants.{Cdp1802, Chip8}
 use Rattle.asm_lex.proofs.Chosen.{no_op}
 use Rattle.machine.specs.Opcodes.{kind_of}
 use Rattle.asm_lex.specs.declared.shape.Word.{Word}
-use Rattle.asm_lex.specs.declared.shape.Word.TheVariants.{Equ, Db, Dw, Page}
+use Rattle.asm_lex.specs.declared.shape.Word.TheVariants.{Equ}
 use Rattle.vip_isa.specs.Rows.{operands_of}
 use Rattle.vip_isa.specs.declared.rows.Operands.{Operands}
 use Rattle.vip_isa.specs.declared.rows.Operands.TheVariants.{Nothing, Register, Port, Data}
@@ -119,12 +120,13 @@ module _ (isa : Isa) (names : Names) (has_label : Bool) (a b : List ℕ) (rest :
   no_numbers : list_all (is_number isa names) (a ∷ b ∷ rest) ≡ false
   no_numbers = false_from_ne_true _ (λ all. both_ways _ wrong (all_numbers isa names (a ∷ b ∷ rest) all))
 
+  not_so_many : (numbers : Numbers) → are_so_many (is_number isa names) numbers (a ∷ b ∷ rest) ≡ false
+  not_so_many Zero = ne_eqb (length (a ∷ b ∷ rest)) 0 (λ e. omega arith)
+  not_so_many OneOrMore = and_right (not (length (a ∷ b ∷ rest) == 0)) (list_all (is_number isa names) (a ∷ b ∷ rest)) no_numbers
+  not_so_many _ = refl
+
   not_taken : (directive : Word) → takes isa names directive has_label (a ∷ b ∷ rest) ≡ false
-  not_taken Equ = and_right has_label false refl
-  not_taken Db = and_right (not (length (a ∷ b ∷ rest) == 0)) (list_all (is_number isa names) (a ∷ b ∷ rest)) no_numbers
-  not_taken Dw = and_right (not (length (a ∷ b ∷ rest) == 0)) (list_all (is_number isa names) (a ∷ b ∷ rest)) no_numbers
-  not_taken Page = ne_eqb (length (a ∷ b ∷ rest)) 0 (λ e. omega arith)
-  not_taken _ = refl
+  not_taken directive = and_right (may_stand directive has_label) _ (not_so_many (numbers_of directive))
 
   no_register : (directive : Word) → gives_register isa names directive has_label (a ∷ b ∷ rest) ≡ None
   no_register Equ = no_given isa names a b rest has_label

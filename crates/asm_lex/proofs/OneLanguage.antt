@@ -8,12 +8,12 @@ use Rattle.vip_isa.specs.declared.rows.Operands.{Operands}
 use Rattle.vip_isa.specs.declared.rows.Operands.TheVariants.{Register, Port, Nothing, Data}
 use Rattle.asm_lex.specs.declared.shape.Isa.TheVariants.{Cdp1802}
 use Rattle.asm_lex.specs.declared.shape.Word.{Word}
-use Rattle.asm_lex.specs.declared.shape.Word.TheVariants.{Org, Equ, EquRegister, Db, Dw, Ds}
+use Rattle.asm_lex.specs.declared.shape.Word.TheVariants.{Equ, EquRegister}
 use Rattle.asm_lex.specs.declared.words.Entry.TheVariants.{Directive, Mnemonic}
 use Rattle.asm_lex.specs.Lines.{operands_of as line_operands, entry_meaning, word_meaning, parsed_code, parsed}
 use Rattle.asm_lex.specs.Names.{Names, is_number, names_register}
 use Rattle.asm_lex.specs.Parts.{code_of, label_of, statement_of, word_of}
-use Rattle.asm_lex.specs.Words.{number_written, coded, is_one, are_some, takes, register_given, gives_register, directive_meaning, meaning_of, directive_of, opcode_named, mnemonic_entry, entry_of}
+use Rattle.asm_lex.specs.Words.{numbers_of, are_so_many, may_stand, number_written, coded, is_one, takes, register_given, gives_register, directive_meaning, meaning_of, directive_of, opcode_named, mnemonic_entry, entry_of}
 
 module _ (names other : Names) where
   same_number : is_number Cdp1802 names ≡ is_number Cdp1802 other
@@ -29,12 +29,7 @@ module _ (names other : Names) where
 
   same_takes : (directive : Word) (has_label : Bool) (operands : List (List ℕ))
       → takes Cdp1802 names directive has_label operands ≡ takes Cdp1802 other directive has_label operands
-  same_takes Org has_label operands = ap (λ p. is_one p operands) same_number
-  same_takes Equ has_label operands = ap (λ p. has_label && is_one p operands) same_number
-  same_takes Db has_label operands = ap (λ p. are_some p operands) same_number
-  same_takes Dw has_label operands = ap (λ p. are_some p operands) same_number
-  same_takes Ds has_label operands = ap (λ p. is_one p operands) same_number
-  same_takes _ has_label operands = refl
+  same_takes directive has_label operands = ap (λ p. may_stand directive has_label && are_so_many p (numbers_of directive) operands) same_number
 
   same_given : (directive : Word) (has_label : Bool) (operands : List (List ℕ))
       → gives_register Cdp1802 names directive has_label operands ≡ gives_register Cdp1802 other directive has_label operands

@@ -1,13 +1,28 @@
 -- Texts that are cut at certain bytes.
 use Rattle.std.proofs.Common.{◌≡◌, ◌+◌, ◌-◌, ◌<◌, ◌≤◌, ℕ, zero, subst, Some, None, refl, Bool, List, [], ◌∷◌, length, take, drop, suc, sym, ◌∙◌, ap, arith, true, false, get_or, cond}
-use Rattle.std.specs.List.{slice_split, position_or_len, filter, find, list_any}
+use Rattle.std.specs.List.{slice_split, position_or_len, filter, find, list_any, list_all}
 use Rattle.std.proofs.lemmas.List.Folds.{list_any_none, list_any_at}
 use Rattle.std.proofs.lemmas.List.{take_all, length-drop, drop-drop, take-take, drop-take}
-use Rattle.std.proofs.lemmas.Bool.{cond-true, cond-false}
-use Rattle.std.specs.Prelude.{not}
+use Rattle.std.proofs.lemmas.Bool.{cond-true, cond-false, ne_eqb, eq-eqb, eqb-true, eqb-false}
+use Rattle.std.specs.Prelude.{not, ◌==◌, ◌&&◌}
 use Rattle.std.proofs.lemmas.List.Splits.{slice_split_none, slice_split_first}
 use Rattle.std.proofs.lemmas.List.Sums.{fails_before_first, passes_at_first}
 use Rattle.asm_lex.specs.Expressions.{is_sign, signed_terms}
+
+suc_eq : (n m : ℕ) → (1 + n == suc m) ≡ (n == m)
+suc_eq n m = elim (n == m) as (λ b. (n == m) ≡ b → (1 + n == suc m) ≡ b) [
+  | true ↦ λ e. eq-eqb (1 + n) (suc m) (omega (arith, eqb-true n m e))
+  | false ↦ λ e. ne_eqb (1 + n) (suc m) (λ s. omega (arith, s, eqb-false n m e))
+] refl
+
+-- each byte passes where none that fails is found
+pub all-position : (p : ℕ → Bool) (xs : List ℕ) → (position_or_len (λ x. not (p x)) xs == length xs) ≡ list_all p xs
+all-position p [] = refl
+all-position p (x ∷ xs) =
+    elim (p x) as (λ b. (cond (not (not b)) (1 + position_or_len (λ x. not (p x)) xs) 0 == suc (length xs)) ≡ (b && list_all p xs)) [
+      | true ↦ suc_eq (position_or_len (λ x. not (p x)) xs) (length xs) ∙ all-position p xs
+      | false ↦ ne_eqb 0 (suc (length xs)) (λ e. omega arith)
+    ]
 
 -- a text in which nothing is found is one part
 pub slice_split_whole : (p : ℕ → Bool) (xs : List ℕ) → position_or_len p xs ≡ length xs → slice_split p xs ≡ xs ∷ []

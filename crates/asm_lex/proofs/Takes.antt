@@ -10,10 +10,11 @@ use Rattle.vip_isa.specs.Rows.{operands_of, first_of, least_of, greatest_of, siz
 use Rattle.vip_isa.specs.declared.rows.Operands.{Operands}
 use Rattle.vip_isa.specs.declared.rows.Operands.TheVariants.{Nothing, Register, Port, Byte, Short, Long, Data}
 use Rattle.asm_lex.specs.declared.shape.Word.{Word}
-use Rattle.asm_lex.specs.declared.shape.Word.TheVariants.{Code, Instruction, Org, Equ, EquRegister, Db, Dw, Ds, Page}
+use Rattle.asm_lex.specs.declared.shape.Word.TheVariants.{Code, Instruction, Equ, EquRegister}
 use Rattle.asm_lex.specs.declared.words.Entry.{Entry}
 use Rattle.asm_lex.specs.declared.words.Entry.TheVariants.{Directive, Mnemonic, Words}
-use Rattle.asm_lex.specs.Words.{number_written, with_number, coded, takes, directive_meaning, meaning_of, is_one, are_some, are_numbers, is_one_number, size_at, HasItsOperands, register_given, gives_register, one_register_in}
+use Rattle.asm_lex.specs.Words.{Numbers, numbers_of, are_so_many, may_stand, number_written, with_number, coded, takes, directive_meaning, meaning_of, is_one, is_one_number, size_at, HasItsOperands, register_given, gives_register, one_register_in}
+use Rattle.asm_lex.specs.Words.Numbers.{NoDirective, Zero, One, OneOrMore}
 use Rattle.asm_lex.specs.Names.{Names, HasValues, is_number}
 use Rattle.asm_lex.specs.Expressions.{is_expression}
 use Rattle.asm_lex.specs.declared.shape.Isa.{Isa}
@@ -66,8 +67,12 @@ all_expressions isa names (text ∷ texts) e =
     let parts = and_parts _ _ e in
     and_from _ _ (is_expression-number isa names text parts.0) (all_expressions isa names texts parts.1)
 
-some_expressions : (isa : Isa) (names : Names) (operands : List (List ℕ)) → are_numbers isa names operands ≡ true → are_some (is_expression isa) operands ≡ true
-some_expressions isa names operands e =
+some_expressions : (isa : Isa) (names : Names) (numbers : Numbers) (operands : List (List ℕ)) → are_so_many (is_number isa names) numbers operands ≡ true
+    → are_so_many (is_expression isa) numbers operands ≡ true
+some_expressions isa names NoDirective operands e = absurd (cc)
+some_expressions isa names Zero operands e = e
+some_expressions isa names One operands e = one_expression isa names operands e
+some_expressions isa names OneOrMore operands e =
     let parts = and_parts _ _ e in
     and_from _ _ parts.0 (all_expressions isa names operands parts.1)
 
@@ -98,13 +103,8 @@ module _ (isa : Isa) (names : Names) (has_label : Bool) (operands : List (List �
   taken : (directive : Word) → takes isa names directive has_label operands ≡ true → HasItsOperands isa (Some directive) operands
   taken (Code opcode) e = absurd (cc)
   taken (Instruction op) e = absurd (cc)
-  taken Org e = one_expression isa names operands e
-  taken Equ e = one_expression isa names operands (and_parts _ _ e).1
   taken (EquRegister register) e = absurd (cc)
-  taken Db e = some_expressions isa names operands e
-  taken Dw e = some_expressions isa names operands e
-  taken Ds e = one_expression isa names operands e
-  taken Page e = tt
+  taken directive e = some_expressions isa names (numbers_of directive) operands (and_parts (may_stand directive has_label) _ e).1
 
 one_given : (names : Names) → HasValues names → (operands : List (List ℕ)) (register : ℕ) → one_register_in names operands ≡ Some register → register ≤ 15
 one_given names values [] register e = absurd (cc)

@@ -65,10 +65,6 @@ is_term isa term = is_some (written_value isa term) || (is_here term || is_name 
 unfoldable pub is_expression : Isa → List ℕ → Bool
 is_expression isa text = list_all (is_term isa) (terms_of (sum_in text))
 
--- the names in an expression
-abbrev pub names_in : Isa → List ℕ → List (List ℕ)
-names_in isa text = filter (is_name isa) (terms_of (sum_in text))
-
 -- a number above 65535 is written in the text
 abbrev pub is_large : Isa → List ℕ → Bool
 is_large isa term = option_map_or (λ number. nat_lt 65535 number) (written_value isa term) false

@@ -1,5 +1,5 @@
 -- Words: the mnemonics of an instruction set and the directives, in letters of either case, and the operands that each one takes.
-use Rattle.std.specs.Prelude.{◌≡◌, ◌≤◌, ◌-◌, ◌==◌, ◌&&◌, ℕ, Bool, false, not, List, [], ◌∷◌, length, find, nat_le, codes, if◌then◌else◌, Option, Some, None, IsTrue, is_some, option_and_then, option_map}
+use Rattle.std.specs.Prelude.{◌≡◌, ◌≤◌, ◌-◌, ◌==◌, ◌&&◌, ℕ, Bool, true, false, not, List, [], ◌∷◌, length, find, nat_le, codes, if◌then◌else◌, Option, Some, None, IsTrue, is_some, option_and_then, option_map}
 use Rattle.std.specs.Option.{option_or}
 use Rattle.std.specs.List.{list_all, range_with_len}
 use Rattle.machine.specs.declared.Kind.{Kind}
@@ -80,6 +80,29 @@ are_some passes operands = not (length operands == 0) && list_all passes operand
 abbrev pub are_numbers : Isa → Names → List (List ℕ) → Bool
 are_numbers isa names operands = are_some (is_number isa names) operands
 
+-- how many numbers a directive takes
+pub data Numbers : Type 0 where
+  NoDirective : Numbers
+  Zero : Numbers
+  One : Numbers
+  OneOrMore : Numbers
+
+abbrev pub numbers_of : Word → Numbers
+numbers_of Org = One
+numbers_of Equ = One
+numbers_of Db = OneOrMore
+numbers_of Dw = OneOrMore
+numbers_of Ds = One
+numbers_of Page = Zero
+numbers_of _ = NoDirective
+
+-- operands are so many, and each passes
+abbrev pub are_so_many : (List ℕ → Bool) → Numbers → List (List ℕ) → Bool
+are_so_many passes NoDirective operands = false
+are_so_many passes Zero operands = are_none operands
+are_so_many passes One operands = is_one passes operands
+are_so_many passes OneOrMore operands = are_some passes operands
+
 -- the number that the operands write into the opcode; none where they are wrong
 abbrev pub number_written : Names → Operands → List (List ℕ) → Option ℕ
 number_written names Register operands = one_register operands
@@ -107,17 +130,14 @@ unfoldable pub register_given : Isa → Names → List (List ℕ) → Option ℕ
 register_given Cdp1802 names operands = None
 register_given Chip8 names operands = one_register_in names operands
 
+-- EQU names its label
+abbrev pub may_stand : Word → Bool → Bool
+may_stand Equ has_label = has_label
+may_stand _ has_label = true
+
 -- a directive has its operands, and EQU a label too
 abbrev pub takes : Isa → Names → Word → Bool → List (List ℕ) → Bool
-takes isa names (Code opcode) has_label operands = false
-takes isa names (Instruction op) has_label operands = false
-takes isa names Org has_label operands = is_one_number isa names operands
-takes isa names Equ has_label operands = has_label && is_one_number isa names operands
-takes isa names (EquRegister register) has_label operands = false
-takes isa names Db has_label operands = are_numbers isa names operands
-takes isa names Dw has_label operands = are_numbers isa names operands
-takes isa names Ds has_label operands = is_one_number isa names operands
-takes isa names Page has_label operands = are_none operands
+takes isa names directive has_label operands = may_stand directive has_label && are_so_many (is_number isa names) (numbers_of directive) operands
 
 -- EQU with a register
 abbrev pub gives_register : Isa → Names → Word → Bool → List (List ℕ) → Option ℕ
@@ -152,10 +172,5 @@ abbrev pub HasItsOperands : Isa → Option Word → List (List ℕ) → Type 0
 HasItsOperands isa None operands = operands ≡ []
 HasItsOperands isa (Some (Code opcode)) operands = (size_at opcode ≡ 1 → ⊥) → IsTrue (is_one (is_expression Cdp1802) operands)
 HasItsOperands isa (Some (Instruction op)) operands = HasItsNumber op operands
-HasItsOperands isa (Some Org) operands = IsTrue (is_one (is_expression isa) operands)
-HasItsOperands isa (Some Equ) operands = IsTrue (is_one (is_expression isa) operands)
 HasItsOperands isa (Some (EquRegister register)) operands = register ≤ 15
-HasItsOperands isa (Some Db) operands = IsTrue (are_some (is_expression isa) operands)
-HasItsOperands isa (Some Dw) operands = IsTrue (are_some (is_expression isa) operands)
-HasItsOperands isa (Some Ds) operands = IsTrue (is_one (is_expression isa) operands)
-HasItsOperands isa (Some Page) operands = Unit {0}
+HasItsOperands isa (Some directive) operands = IsTrue (are_so_many (is_expression isa) (numbers_of directive) operands)

@@ -3,7 +3,7 @@
 ghost use Rattle.std.specs.Prelude.{◌≡◌, ◌≤◌, ◌==◌, ℕ, List, map, find, IfSome, Option, None, Some, if◌then◌else◌};
 ghost use Rattle.asm_lex.specs.Bytes.{spells};
 ghost use Rattle.std.specs.Str.{bytes_eq};
-ghost use Rattle.asm_lex.specs.Forms.{register_in, is_operand, with_x, with_y, with_operand, with_operands, written_operands, bare, form_meaning, form_named, same_meaning, first_given, one_twice, op_meaning};
+ghost use Rattle.asm_lex.specs.Forms.{register_in, is_operand, with_operand, with_operands, written_operands, bare, form_meaning, form_named, same_meaning, first_given, one_twice, op_meaning};
 ghost use Rattle.asm_lex.specs.Spans.{text_at, AreWithin};
 ghost use Rattle.asm_lex.specs.Names.{value_in};
 ghost use Rattle.chip8_words.specs.Table.{forms, mnemonic_of, operands_of};
@@ -71,29 +71,17 @@ pub(crate) fn is_operand(names: &Symbols, due: Operand, text: &[u8]) -> bool
     }
 }
 
-fn with_x(op: Op, x: u8) -> Op
-    ensures { result ≡ with_x op x }
-{
-    Op { x, ..op }
-}
-
-fn with_y(op: Op, y: u8) -> Op
-    ensures { result ≡ with_y op y }
-{
-    Op { y, ..op }
-}
-
 // The parts of an opcode with the register of one operand more; none where the operand is another than is due.
 fn with_operand(names: &Symbols, op: Op, due: Operand, text: &[u8]) -> Option<Op>
     ensures { result ≡ with_operand (value_in names.now) op due text.now }
 {
     match due {
         Operand::X => match register_in(names, text) {
-            Some(x) => Some(with_x(op, x)),
+            Some(x) => Some(Op { x, ..op }),
             None => None,
         },
         Operand::Y => match register_in(names, text) {
-            Some(y) => Some(with_y(op, y)),
+            Some(y) => Some(Op { y, ..op }),
             None => None,
         },
         _ if is_operand(names, due, text) => Some(op),

@@ -147,27 +147,42 @@ pub(crate) fn parts_of(line: &[u8]) -> Parts
 }
 
 // The first 128 operands in what stands behind a word, and whether these are all.
-fn first_operands(line: &[u8], span: Span) -> (ArrayVec<Span, 128>, bool)
+#[derive(Drop)]
+struct FirstOperands {
+    spans: ArrayVec<Span, 128>,
+    are_all: bool,
+}
+
+fn first_operands(line: &[u8], span: Span) -> FirstOperands
     requires { IsWithin line.now span }
-    ensures texts { MatchBool result.1 (map (text_at line.now) result.0.items ≡ operands_in (text_at line.now span))
+    ensures texts { MatchBool result.are_all (map (text_at line.now) result.spans.items ≡ operands_in (text_at line.now span))
         (128 < length (operands_in (text_at line.now span))) }
-    ensures order { AreInOrder span.from result.0.items span.to }
-    ensures places { result.0.items ≡ take 128 (spans_in span.from (text_at line.now span)) }
+    ensures order { AreInOrder span.from result.spans.items span.to }
+    ensures places { result.spans.items ≡ take 128 (spans_in span.from (text_at line.now span)) }
 {
     let mut operands = ArrayVec::new();
     if span.from == span.to {
-        return (operands, true);
+        return FirstOperands {
+            spans: operands,
+            are_all: true,
+        };
     }
     let mut rest = Some(span);
     while let Some(left) = rest {
         if operands.is_full() {
-            return (operands, false);
+            return FirstOperands {
+                spans: operands,
+                are_all: false,
+            };
         }
         let (operand, more) = cut(line, left, Stop::Comma);
         operands.push(trim(line, operand));
         rest = more;
     }
-    (operands, true)
+    FirstOperands {
+        spans: operands,
+        are_all: true,
+    }
 }
 
 /// The operands in what stands behind a word; none where there are more than 128.
@@ -177,9 +192,11 @@ pub(crate) fn operands(line: &[u8], span: Span) -> Option<ArrayVec<Span, 128>>
         (λ operands. map (text_at line.now) operands.items ≡ operands_in (text_at line.now span)) }
     ensures order { IfSome result (λ operands. AreInOrder span.from operands.items span.to) }
 {
-    match first_operands(line, span) {
-        (operands, true) => Some(operands),
-        (_, false) => None,
+    let first = first_operands(line, span);
+    if first.are_all {
+        Some(first.spans)
+    } else {
+        None
     }
 }
 
@@ -206,10 +223,10 @@ pub fn line_spans(line: &[u8]) -> LineSpans
     ensures operands_within { AreWithin line.now result.operands.items }
 {
     let parts = parts_of(line);
-    let (operands, _) = first_operands(line, parts.operands);
+    let first = first_operands(line, parts.operands);
     LineSpans {
         label: parts.label,
         word: parts.word,
-        operands,
+        operands: first.spans,
     }
 }

@@ -7,7 +7,7 @@ ghost use Rattle.vip_byte.specs.Text.{is_blank};
 ghost use Rattle.asm_lex.specs.Bytes.{is_allowed, begins_name, is_in_name, is_long_name, ends_name, is_name, is_reserved, operand_words, register_letter, register_of, has_long_name, spells};
 
 use crate::Isa;
-use crate::cuts::{Stop, cut};
+use crate::cuts::{Stop, cut, position};
 
 /// The most characters that a name may have.
 const LONGEST_NAME: usize = 32;
@@ -40,13 +40,13 @@ pub(crate) fn is_in_name(byte: u8) -> bool
 pub(crate) fn are_allowed(line: &[u8]) -> bool
     ensures { result ≡ list_all is_allowed line.now }
 {
-    line.iter().all(|byte| is_allowed(*byte))
+    position(line, Stop::NotAllowed) == line.len()
 }
 
 fn are_in_name(text: &[u8]) -> bool
     ensures { result ≡ list_all is_in_name text.now }
 {
-    text.iter().all(|byte| is_in_name(*byte))
+    position(text, Stop::EndOfName) == text.len()
 }
 
 /// The number of the register that a text names, if it names one.

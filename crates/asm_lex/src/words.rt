@@ -1,7 +1,7 @@
 //! Words and their operands.
 
 ghost use Rattle.std.specs.Prelude.{◌≡◌, ℕ, List, length, map};
-ghost use Rattle.asm_lex.specs.Words.{directive_of, mnemonic_at, opcode_named, mnemonic_entry, entry_of, one_register, port_of, one_port, is_one_number, are_none, are_numbers, number_written, with_number, coded, one_register_in, register_given, gives_register, takes, directive_meaning, meaning_of};
+ghost use Rattle.asm_lex.specs.Words.{directive_of, opcode_named, mnemonic_entry, entry_of, one_register, port_of, one_port, is_one_number, are_none, are_numbers, number_written, with_number, coded, register_given, gives_register, takes, directive_meaning, meaning_of};
 ghost use Rattle.asm_lex.specs.Names.{value_in, is_number};
 ghost use Rattle.machine.specs.Opcodes.{kind_of};
 ghost use Rattle.asm_lex.specs.Spans.{text_at, AreWithin};
@@ -47,18 +47,11 @@ fn directive(word: &[u8]) -> Option<Word>
     }
 }
 
-#[tactic(auto, unfolding(crate::specs::Words::mnemonic_at))]
-fn mnemonic_at(opcode: u8) -> &'static str
-    ensures { result.now ≡ mnemonic_at opcode }
-{
-    mnemonic(opcode)
-}
-
 fn opcode(word: &[u8]) -> Option<u8>
     ensures { result ≡ opcode_named word.now }
 {
     for opcode in 0..=u8::MAX {
-        if spells(word, mnemonic_at(opcode)) {
+        if spells(word, mnemonic(opcode)) {
             return Some(opcode);
         }
     }
@@ -190,24 +183,14 @@ fn takes(
     }
 }
 
-fn one_register_in(names: &Symbols, line: &[u8], operands: &[Span]) -> Option<u8>
-    requires { AreWithin line.now operands.now }
-    ensures { result ≡ one_register_in (value_in names.now) (map (text_at line.now) operands.now) }
-{
-    match operands {
-        [operand] => register_in(names, text_at(line, *operand)),
-        _ => None,
-    }
-}
-
 #[tactic(auto, unfolding(crate::specs::Words::register_given))]
 fn register_given(isa: Isa, names: &Symbols, line: &[u8], operands: &[Span]) -> Option<u8>
     requires { AreWithin line.now operands.now }
     ensures { result ≡ register_given isa (value_in names.now) (map (text_at line.now) operands.now) }
 {
-    match isa {
-        Isa::Cdp1802 => None,
-        Isa::Chip8 => one_register_in(names, line, operands),
+    match (isa, operands) {
+        (Isa::Chip8, [operand]) => register_in(names, text_at(line, *operand)),
+        _ => None,
     }
 }
 
