@@ -19,9 +19,8 @@ use Rattle.asm_core.specs.declared.table.Cell.{Cell}
 use Rattle.asm_lex.specs.declared.shape.Isa.TheVariants.{Cdp1802}
 use Rattle.asm_lex.specs.Names.{Names}
 use Rattle.asm_lex.proofs.OneLanguage.{one_language}
-use Rattle.asm_core.specs.Layout.{from_parts, laid_parts, laid_out, label_from, label_in}
-use Rattle.asm_core.specs.Encoding.{encoded_parts, encoded}
-use Rattle.asm_core.specs.Sources.{Known, known_first, known_after, known_next, known_at, address_of, all_names, line_at, fault_1, fault_2, fault_with, overlaps, bytes_of, cell_in, cell_before, NoFault}
+use Rattle.asm_core.specs.Layout.{from_parts, laid_parts, laid_out, label_from, label_in, encoded_parts, encoded, count_between}
+use Rattle.asm_core.specs.Sources.{Known, known_first, known_after, known_next, known_at, address_of, all_names, line_at, fault_1, fault_2, fault_with, overlaps, bytes_of, cell_in, cell_before, NoFault, value_from, label_value, count_of}
 use Rattle.asm_core.proofs.PassOne.{line_here, no_line, known_at-first, known_at-next}
 
 -- ---- a line that was read
@@ -37,7 +36,11 @@ abbrev pub laid_by : Known → Read → Result Laid AsmCause
 laid_by known line = from_parts (laid_parts Cdp1802 known.names known.at) line
 
 abbrev pub bytes_by : Names → ℕ → ℕ → Read → Result (List ℕ) AsmCause
-bytes_by names at next line = from_parts (λ line. encoded_parts Cdp1802 names at next line.word line.operands) line
+bytes_by names at count line = from_parts (λ line. encoded_parts Cdp1802 names at count line.word line.operands) line
+
+-- how many bytes it has
+abbrev pub count_by : Known → Laid → ℕ
+count_by known laid = count_between laid.value known.at laid.next
 
 -- what stands before the next line
 abbrev pub known_by : Known → Read → Known
@@ -98,7 +101,7 @@ by_bytes rom known stretches line rest laid (Ok bytes) =
 
 abbrev pub by_laid : Names → Rom → Known → Stretches → Read → Rest → Result Laid AsmCause → Option Stretches
 by_laid names rom known stretches line rest (Err cause) = None
-by_laid names rom known stretches line rest (Ok laid) = by_bytes rom known stretches line rest laid (bytes_by names known.at laid.next line)
+by_laid names rom known stretches line rest (Ok laid) = by_bytes rom known stretches line rest laid (bytes_by names known.at (count_by known laid) line)
 
 -- the stretches of all lines; none where a line has a fault or another byte than the ROM
 abbrev pub stretches_by : Names → Rom → List Read → Rest
@@ -234,7 +237,7 @@ nothing source rom = record {
 module _ (source : List (List ℕ)) (rom : Rom) (number : ℕ) (below : number < length source) (line : List ℕ) (here : line_at source number ≡ line) where
   module _ (laid : Laid) (bytes : List ℕ) (stretches : Stretches)
       (laid_is : laid_by (known_at Cdp1802 source number) (read line) ≡ Ok laid)
-      (bytes_is : bytes_by (all_names Cdp1802 source) (known_at Cdp1802 source number).at laid.next (read line) ≡ Ok bytes) where
+      (bytes_is : bytes_by (all_names Cdp1802 source) (known_at Cdp1802 source number).at (count_by (known_at Cdp1802 source number) laid) (read line) ≡ Ok bytes) where
     next_known : known_at Cdp1802 source (number + 1) ≡ known_after (known_at Cdp1802 source number) (label_from (read line)) (Ok laid)
     unfolding laid_out label_in
     next_known =
@@ -253,15 +256,27 @@ module _ (source : List (List ℕ)) (rom : Rom) (number : ℕ) (below : number <
     one_more : suc number ≡ number + 1
     one_more = omega arith
 
+    value_is : label_value Cdp1802 source number ≡ laid.value
+    unfolding label_value laid_out
+    value_is =
+        ap (λ l. value_from (laid_by (known_at Cdp1802 source number) (parsed Cdp1802 (known_at Cdp1802 source number).names l))) here
+        ∙ ap (λ r. value_from (laid_by (known_at Cdp1802 source number) r)) (as_read (known_at Cdp1802 source number).names line)
+        ∙ ap value_from laid_is
+
+    count_is : count_of Cdp1802 source number ≡ count_by (known_at Cdp1802 source number) laid
+    count_is =
+        ap (λ v. count_between v (address_of Cdp1802 source number) (address_of Cdp1802 source (suc number))) value_is
+        ∙ ap (count_between laid.value (address_of Cdp1802 source number))
+        (ap (λ n. address_of Cdp1802 source n) one_more ∙ ap (λ (k : Known). k.at) next_known)
+
     bytes_are : bytes_of Cdp1802 source number ≡ Ok bytes
     unfolding bytes_of encoded
     bytes_are =
-        ap (λ l. bytes_by (all_names Cdp1802 source) (address_of Cdp1802 source number) (address_of Cdp1802 source (suc number))
+        ap (λ l. bytes_by (all_names Cdp1802 source) (address_of Cdp1802 source number) (count_of Cdp1802 source number)
         (parsed Cdp1802 (known_at Cdp1802 source number).names l)) here
-        ∙ ap (bytes_by (all_names Cdp1802 source) (address_of Cdp1802 source number) (address_of Cdp1802 source (suc number)))
+        ∙ ap (bytes_by (all_names Cdp1802 source) (address_of Cdp1802 source number) (count_of Cdp1802 source number))
         (as_read (known_at Cdp1802 source number).names line)
-        ∙ ap (λ n. bytes_by (all_names Cdp1802 source) (address_of Cdp1802 source number) n (read line))
-        (ap (λ n. address_of Cdp1802 source n) one_more ∙ ap (λ (k : Known). k.at) next_known)
+        ∙ ap (λ n. bytes_by (all_names Cdp1802 source) (address_of Cdp1802 source number) n (read line)) count_is
         ∙ bytes_is
 
     cells_are : (a : ℕ)
@@ -321,7 +336,7 @@ record Passes (names : Names) (rom : Rom) (known : Known) (stretches : Stretches
   laid : Laid
   laid_is : laid_by known line ≡ Ok laid
   bytes : List ℕ
-  bytes_is : bytes_by names known.at laid.next line ≡ Ok bytes
+  bytes_is : bytes_by names known.at (count_by known laid) line ≡ Ok bytes
   fit : fits rom stretches known.at bytes ≡ true
   on : rest (known_after known (label_from line) (Ok laid)) (with_stretch stretches known.at (length bytes)) ≡ Some all
 
@@ -329,7 +344,7 @@ passes : (names : Names) (rom : Rom) (known : Known) (stretches : Stretches) (li
     → by_laid names rom known stretches line rest (laid_by known line) ≡ Some all → Passes names rom known stretches line rest all
 passes names rom known stretches line rest all e = from_laid (laid_by known line) refl e
   where
-    from_bytes : (laid : Laid) → laid_by known line ≡ Ok laid → (found : Result (List ℕ) AsmCause) → bytes_by names known.at laid.next line ≡ found
+    from_bytes : (laid : Laid) → laid_by known line ≡ Ok laid → (found : Result (List ℕ) AsmCause) → bytes_by names known.at (count_by known laid) line ≡ found
         → by_bytes rom known stretches line rest laid found ≡ Some all → Passes names rom known stretches line rest all
     from_bytes laid laid_is (Err cause) is e = absurd (cc)
     from_bytes laid laid_is (Ok bytes) is e =
@@ -344,7 +359,7 @@ passes names rom known stretches line rest all e = from_laid (laid_by known line
     from_laid : (found : Result Laid AsmCause) → laid_by known line ≡ found
         → by_laid names rom known stretches line rest found ≡ Some all → Passes names rom known stretches line rest all
     from_laid (Err cause) is e = absurd (cc)
-    from_laid (Ok laid) is e = from_bytes laid is (bytes_by names known.at laid.next line) refl e
+    from_laid (Ok laid) is e = from_bytes laid is (bytes_by names known.at (count_by known laid) line) refl e
 
 walk : (source : List (List ℕ)) (rom : Rom) (lines : List (List ℕ)) (number : ℕ) (stretches all : Stretches)
     → drop number source ≡ lines → number ≤ length source → SoFar source rom number stretches

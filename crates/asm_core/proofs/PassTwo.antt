@@ -10,7 +10,7 @@ use Rattle.machine.specs.declared.Kind.TheVariants.{Idl}
 use Rattle.machine.specs.Opcodes.{kind_of}
 use Rattle.vip_isa.specs.Rows.{size_of}
 use Rattle.asm_lex.specs.declared.shape.Word.{Word}
-use Rattle.asm_lex.specs.declared.shape.Word.TheVariants.{Code, Instruction, Org, Equ, EquRegister, Db, Dw, Ds, Page}
+use Rattle.asm_lex.specs.declared.shape.Word.TheVariants.{Code, Instruction, Db, Dw}
 use Rattle.asm_lex.specs.declared.shape.ValueFault.{ValueFault}
 use Rattle.asm_lex.specs.declared.shape.ValueFault.TheVariants as value
 use Rattle.asm_lex.specs.declared.shape.LexFault.{LexFault}
@@ -23,7 +23,6 @@ use Rattle.asm_core.specs.declared.fault.AsmCause.{AsmCause}
 use Rattle.asm_core.specs.declared.fault.AsmCause.TheVariants.{Duplicate, OffPage, TooLarge}
 use Rattle.asm_lex.specs.declared.shape.Isa.{Isa}
 use Rattle.asm_lex.specs.declared.shape.Isa.TheVariants.{Cdp1802, Chip8}
-use Rattle.asm_lex.specs.declared.shape.SymbolValue.TheVariants.{Number, Register}
 use Rattle.asm_lex.specs.Forms.{most_of, last_operand}
 use Rattle.asm_lex.specs.Names.{Names, value_in}
 use Rattle.chip8_words.specs.declared.code.Op.{Op}
@@ -31,9 +30,9 @@ use Rattle.chip8_words.specs.Codes.{encoded as opcode_of_parts}
 use Rattle.asm_core.specs.declared.layout.LabelValue.{LabelValue}
 use Rattle.asm_core.specs.declared.layout.LabelValue.TheVariants.{Address, Given}
 use Rattle.asm_core.specs.Names.{operand_value, first_operand}
-use Rattle.asm_core.specs.Layout.{laid, laid_out, label_in, laid_parts, from_parts, judged, placed, is_duplicate, is_too_large, page_above, at_least, org_address, value_cause}
-use Rattle.asm_core.specs.Encoding.{word_bytes, is_undefined, collected, values_of, long_branch, to_page, short_branch, immediate, instruction, with_number, op_bytes, encoded_parts, encoded}
-use Rattle.asm_core.specs.Sources.{Known, known_after, known_at, names_before, address_of, all_names, line_at, fault_1, fault_2, value_from, label_value, bytes_of, cell_before, NoFault}
+use Rattle.asm_core.specs.Layout.{laid, laid_out, label_in, laid_parts, from_parts, judged, placed, is_duplicate, is_too_large, encoded_parts, encoded, count_between}
+use Rattle.asm_core.specs.Encoding.{word_bytes, is_undefined, collected, values_of, long_branch, to_page, short_branch, immediate, instruction, with_number, op_bytes, value_cause}
+use Rattle.asm_core.specs.Sources.{Known, known_after, known_at, names_before, address_of, all_names, line_at, fault_1, fault_2, value_from, label_value, bytes_of, cell_before, NoFault, count_of}
 use Rattle.asm_core.specs.Made.{IsAssembly}
 use Rattle.asm_core.specs.Passes.{Planned, LaysOut}
 use Rattle.asm_core.proofs.PassOne.{known_at-next}
@@ -137,15 +136,11 @@ op_length names at op operand bytes e =
       | false ↦ λ h. let same : word_bytes (opcode_of_parts op) ≡ bytes = cc in sym (ap length same)
     ] e
 
--- how many bytes a line has: those up to the next address, unless it moves the address or gives its label another value
-abbrev pub count_between : LabelValue → ℕ → ℕ → ℕ
-count_between (Address address) at next = cond (address == at) (next - at) 0
-count_between (Given value) at next = 0
-
 count_placed : (at next : ℕ) → next - at ≡ count_between (Address at) at next
 count_placed at next = sym (cond-true (at == at) (next - at) 0 (eq-eqb at at refl))
 
-count_moved : (at next : ℕ) → 0 ≡ count_between (Address next) at next
+-- a line that moves the address has no bytes
+pub count_moved : (at next : ℕ) → 0 ≡ count_between (Address next) at next
 count_moved at next = elim (next == at) as (λ b. (next == at) ≡ b → 0 ≡ cond b (next - at) 0) [
   | true ↦ λ e. omega (arith, eqb-true next at e)
   | false ↦ λ e. refl
@@ -154,22 +149,11 @@ count_moved at next = elim (next == at) as (λ b. (next == at) ≡ b → 0 ≡ c
 abbrev count_in : ℕ → Laid → ℕ
 count_in at laid = count_between laid.value at laid.next
 
-least_ok : (least : ℕ) (r : Result ℕ ValueFault) (found : ℕ) → at_least least r ≡ Ok found → r ≡ Ok found
-least_ok least (Err fault) found e = absurd (cc)
-least_ok least (Ok v) found e =
-    elim (nat_le least v) as (λ b. cond {A = Result ℕ ValueFault} b (Ok v) (Err value.Range) ≡ Ok found → ◌≡◌ {A = Result ℕ ValueFault} (Ok v) (Ok found)) [
-      | true ↦ λ h. h
-      | false ↦ λ h. absurd (cc)
-    ] e
-
 module _ (isa : Isa) (before after : Names) (at : ℕ) where
   parts_count : (word : Option Word) (operands : List (List ℕ)) (found : Laid) (bytes : List ℕ)
-      → placed isa before at word operands ≡ Ok found → encoded_parts isa after at found.next word operands ≡ Ok bytes → length bytes ≡ count_in at found
+      → placed isa before at word operands ≡ Ok found → encoded_parts isa after at (count_in at found) word operands ≡ Ok bytes
+      → length bytes ≡ count_in at found
   unfolding placed encoded_parts
-  parts_count None operands found bytes p e =
-      let none : [] ≡ bytes = cc in
-      let same : laid (Address at) at ≡ found = cc in
-      sym (ap length none) ∙ count_moved at at ∙ ap (count_in at) same
   parts_count (Some (Code opcode)) operands found bytes p e =
       let same : laid (Address at) (at + size_at opcode) ≡ found = cc in
       let count : at + size_at opcode - at ≡ size_at opcode = omega arith in
@@ -178,20 +162,6 @@ module _ (isa : Isa) (before after : Names) (at : ℕ) where
       let same : laid (Address at) (at + 2) ≡ found = cc in
       let count : at + 2 - at ≡ 2 = omega arith in
       op_length after at op (last_operand operands) bytes e ∙ sym count ∙ count_placed at (at + 2) ∙ ap (count_in at) same
-  parts_count (Some Org) operands found bytes p e =
-      let none : [] ≡ bytes = cc in
-      let from = mapped_ok (λ address. laid (Address address) address) (λ (fault : ValueFault). fault)
-      (org_address isa before at (first_operand operands)) found p in
-      sym (ap length none) ∙ count_moved at from.0 ∙ ap (count_in at) from.2
-  parts_count (Some Equ) operands found bytes p e =
-      let none : [] ≡ bytes = cc in
-      let from = mapped_ok (λ value. laid (Given (Number value)) at) (λ (fault : ValueFault). fault)
-      (operand_value isa before at 65535 (first_operand operands)) found p in
-      sym (ap length none) ∙ ap (count_in at) from.2
-  parts_count (Some (EquRegister register)) operands found bytes p e =
-      let none : [] ≡ bytes = cc in
-      let same : laid (Given (Register register)) at ≡ found = cc in
-      sym (ap length none) ∙ ap (count_in at) same
   parts_count (Some Db) operands found bytes p e =
       let same : laid (Address at) (at + length operands) ≡ found = cc in
       let values = mapped_ok (λ (bytes : List ℕ). bytes) value_cause (values_of isa after at 255 operands) bytes e in
@@ -203,17 +173,9 @@ module _ (isa : Isa) (before after : Names) (at : ℕ) where
       let count : length bytes ≡ at + 2 * length operands - at =
       omega (arith, ap length values.2, length-words values.0, values_length isa after at 65535 operands values.0 values.1) in
       count ∙ count_placed at (at + 2 * length operands) ∙ ap (count_in at) same
-  parts_count (Some Ds) operands found bytes p e =
-      let from = mapped_ok (λ count. laid (Address at) (at + count)) (λ (fault : ValueFault). fault)
-      (operand_value isa before at 65535 (first_operand operands)) found p in
-      let zeros : replicate (found.next - at) 0 ≡ bytes = cc in
-      let next : at + from.0 ≡ found.next = ap (λ (l : Laid). l.next) from.2 in
-      let count : length bytes ≡ at + from.0 - at = sym (ap length zeros) ∙ length-replicate {A = ℕ} (found.next - at) 0 ∙ ap (λ n. n - at) (sym next) in
-      count ∙ count_placed at (at + from.0) ∙ ap (count_in at) from.2
-  parts_count (Some Page) operands found bytes p e =
-      let none : [] ≡ bytes = cc in
-      let same : laid (Address (page_above at)) (page_above at) ≡ found = cc in
-      sym (ap length none) ∙ count_moved at (page_above at) ∙ ap (count_in at) same
+  parts_count _ operands found bytes p e =
+      let room : replicate (count_in at found) 0 ≡ bytes = cc in
+      sym (ap length room) ∙ length-replicate {A = ℕ} (count_in at found) 0
 
 chosen_ok : (large : Bool) (l found : Laid) → cond {A = Result Laid AsmCause} large (Err TooLarge) (Ok l) ≡ Ok found → l ≡ found
 chosen_ok true l found e = absurd (cc)
@@ -241,14 +203,14 @@ laid_parts_ok isa names at parts found e =
 module _ (isa : Isa) (before after : Names) (at : ℕ) where
   from_parts_count : (r : Result Parsed LexFault) (found : Laid) (bytes : List ℕ)
       → from_parts (laid_parts isa before at) r ≡ Ok found
-      → from_parts (λ line. encoded_parts isa after at found.next line.word line.operands) r ≡ Ok bytes
+      → from_parts (λ line. encoded_parts isa after at (count_in at found) line.word line.operands) r ≡ Ok bytes
       → length bytes ≡ count_in at found
   from_parts_count (Err fault) found bytes l e = absurd (cc)
   from_parts_count (Ok parts) found bytes l e =
       parts_count isa before after at parts.word parts.operands found bytes (laid_parts_ok isa before at parts found l) e
 
   line_count : (line : List ℕ) (found : Laid) (bytes : List ℕ)
-      → laid_out isa before at line ≡ Ok found → encoded isa before after at found.next line ≡ Ok bytes → length bytes ≡ count_in at found
+      → laid_out isa before at line ≡ Ok found → encoded isa before after at (count_in at found) line ≡ Ok bytes → length bytes ≡ count_in at found
   unfolding laid_out encoded
   line_count line found bytes l e = from_parts_count (parsed isa before line) found bytes l e
 
@@ -261,7 +223,7 @@ count_fits (Address address) at next low high = elim (address == at) as (λ b. a
 count_fits (Given value) at next low high = omega arith
 
 line_fits : (isa : Isa) (before after : Names) (at : ℕ) (line : List ℕ) (found : Laid) (bytes : List ℕ) → at ≤ 65536 → found.next ≤ 65536
-    → laid_out isa before at line ≡ Ok found → encoded isa before after at found.next line ≡ Ok bytes → at + length bytes ≤ 65536
+    → laid_out isa before at line ≡ Ok found → encoded isa before after at (count_in at found) line ≡ Ok bytes → at + length bytes ≤ 65536
 line_fits isa before after at line found bytes low high l e =
     omega (arith, line_count isa before after at line found bytes l e, count_fits found.value at found.next low high)
 
@@ -270,29 +232,43 @@ no_error (Ok x) e = (x, refl)
 no_error (Err cause) e = absurd (cc)
 
 module _ (isa : Isa) (source : List (List ℕ)) where
+  module _ (number : ℕ) (below : number < length source) (found : Laid) (is : laid_out isa (names_before isa source number) (address_of isa source number) (line_at source number) ≡ Ok found) where
+    next_address : address_of isa source (number + 1) ≡ found.next
+    next_address =
+        ap (λ (k : Known). k.at)
+        (known_at-next isa source number below
+        ∙ ap (known_after (known_at isa source number) (label_in isa (names_before isa source number) (line_at source number))) is)
+
+    value_here : label_value isa source number ≡ found.value
+    unfolding label_value
+    value_here = ap value_from is
+
+    count_here : count_of isa source number ≡ count_in (address_of isa source number) found
+    count_here =
+        let at : ℕ = address_of isa source number in
+        let step : suc number ≡ number + 1 = omega arith in
+        ap (λ v. count_between v at (address_of isa source (suc number))) value_here
+        ∙ ap (count_between found.value at) (ap (λ n. address_of isa source n) step ∙ next_address)
+
   -- how many bytes a line has
   pub bytes_count : NoFault (fault_1 isa source) (length source) → (number : ℕ) → number < length source → (bytes : List ℕ)
       → bytes_of isa source number ≡ Ok bytes
       → length bytes ≡ count_between (label_value isa source number) (address_of isa source number) (address_of isa source (number + 1))
-  unfolding fault_1 bytes_of label_value
+  unfolding fault_1 bytes_of
   bytes_count faultless number below bytes e =
       let at : ℕ = address_of isa source number in
       let names : Names = names_before isa source number in
       let line : List ℕ = line_at source number in
       let found = no_error (laid_out isa names at line) (faultless number below) in
-      let next : address_of isa source (number + 1) ≡ found.0.next =
-      ap (λ (k : Known). k.at) (known_at-next isa source number below ∙ ap (known_after (known_at isa source number) (label_in isa names line)) found.1) in
-      let step : suc number ≡ number + 1 = omega arith in
-      let value : value_from (laid_out isa names at line) ≡ found.0.value = ap value_from found.1 in
       line_count isa names (all_names isa source) at line found.0 bytes found.1
-      (ap (λ n. encoded isa names (all_names isa source) at n line) (sym (ap (λ n. address_of isa source n) step ∙ next)) ∙ e)
-      ∙ ap (λ v. count_between v at found.0.next) (sym value)
-      ∙ ap (λ n. count_between (value_from (laid_out isa names at line)) at n) (sym next)
+      (ap (λ n. encoded isa names (all_names isa source) at n line) (sym (count_here number below found.0 found.1)) ∙ e)
+      ∙ ap (λ v. count_between v at found.0.next) (sym (value_here number below found.0 found.1))
+      ∙ ap (count_between (label_value isa source number) at) (sym (next_address number below found.0 found.1))
 
   -- the bytes of a line end at address 65536 at most
   pub bytes_fit : (plan : Planned) → LaysOut isa source (length source) plan → (number : ℕ)
       → number < length source → (after : Names) (bytes : List ℕ)
-      → encoded isa (names_before isa source number) after (address_of isa source number) (address_of isa source (number + 1)) (line_at source number)
+      → encoded isa (names_before isa source number) after (address_of isa source number) (count_of isa source number) (line_at source number)
       ≡ Ok bytes
       → address_of isa source number + length bytes ≤ 65536
   unfolding fault_1
@@ -301,30 +277,26 @@ module _ (isa : Isa) (source : List (List ℕ)) where
       let names : Names = names_before isa source number in
       let line : List ℕ = line_at source number in
       let found = no_error (laid_out isa names at line) (laid.faultless number below) in
-      let next : address_of isa source (number + 1) ≡ found.0.next =
-      ap (λ (k : Known). k.at) (known_at-next isa source number below ∙ ap (known_after (known_at isa source number) (label_in isa names line)) found.1) in
       line_fits isa names after at line found.0 bytes (laid.low number (omega arith))
-      (omega (arith, next, laid.low (number + 1) (omega arith))) found.1
-      (ap (λ n. encoded isa names after at n line) (sym next) ∙ e)
+      (omega (arith, next_address number below found.0 found.1, laid.low (number + 1) (omega arith))) found.1
+      (ap (λ n. encoded isa names after at n line) (sym (count_here number below found.0 found.1)) ∙ e)
 
   module _ (plan : Planned) (laid : LaysOut isa source (length source) plan) (number : ℕ) (below : number < length source) where
     all_same : value_in plan.names ≡ all_names isa source
     all_same = λ i name. laid.named name i
 
     -- the bytes of a line, as pass 2 makes them
-    pub bytes_here : (line : List ℕ) (at next : ℕ) → line_at source number ≡ line → at ≡ address_of isa source number
-        → next ≡ address_of isa source (number + 1)
-        → bytes_of isa source number ≡ encoded isa (names_before isa source number) (value_in plan.names) at next line
+    pub bytes_here : (line : List ℕ) (at count : ℕ) → line_at source number ≡ line → at ≡ address_of isa source number
+        → count ≡ count_of isa source number
+        → bytes_of isa source number ≡ encoded isa (names_before isa source number) (value_in plan.names) at count line
     unfolding bytes_of
-    bytes_here line at next here place place_next =
-        let step : suc number ≡ number + 1 = omega arith in
-        let after : address_of isa source (suc number) ≡ next = ap (λ n. address_of isa source n) step ∙ sym place_next in
-        ap (λ ns. encoded isa (names_before isa source number) ns (address_of isa source number) (address_of isa source (suc number)) (line_at source number))
+    bytes_here line at count here place as_many =
+        ap (λ ns. encoded isa (names_before isa source number) ns (address_of isa source number) (count_of isa source number) (line_at source number))
         (sym all_same)
-        ∙ ap (λ a. encoded isa (names_before isa source number) (value_in plan.names) a (address_of isa source (suc number)) (line_at source number))
+        ∙ ap (λ a. encoded isa (names_before isa source number) (value_in plan.names) a (count_of isa source number) (line_at source number))
         (sym place)
-        ∙ ap (λ n. encoded isa (names_before isa source number) (value_in plan.names) at n (line_at source number)) after
-        ∙ ap (encoded isa (names_before isa source number) (value_in plan.names) at next) here
+        ∙ ap (λ n. encoded isa (names_before isa source number) (value_in plan.names) at n (line_at source number)) (sym as_many)
+        ∙ ap (encoded isa (names_before isa source number) (value_in plan.names) at count) here
 
 -- both passes give the assembly
 pub is_assembly : (isa : Isa) (source : List (List ℕ)) (plan : Planned) (cells : List (Option Cell)) → LaysOut isa source (length source) plan

@@ -1,6 +1,6 @@
 -- What is told of the lines of a source, one after another.
 use Rattle.std.proofs.Common.{◌≡◌, ◌+◌, ◌<◌, ◌≤◌, ℕ, zero, suc, refl, subst, Bool, List, [], ◌∷◌, ◌++◌, length, sym, ◌∙◌, ap, arith, true, false, cond, Some, None, Option, Ok, Result, inl, inr}
-use Rattle.std.specs.Prelude.{is_some, option_map, MatchBool}
+use Rattle.std.specs.Prelude.{is_some, option_map, MatchBool, slice_index}
 use Rattle.std.specs.Option.{option_or}
 use Rattle.std.specs.Result.{result_unwrap_or}
 use Rattle.std.proofs.lemmas.Bool.{cases_lt, cond-true, cond-false, both_ways}
@@ -19,10 +19,9 @@ use Rattle.asm_core.specs.declared.layout.Laid.{Laid}
 use Rattle.asm_core.specs.declared.layout.LabelValue.{LabelValue}
 use Rattle.asm_core.specs.declared.fault.AsmCause.{AsmCause}
 use Rattle.asm_core.specs.declared.table.Cell.{Cell}
-use Rattle.asm_core.specs.Encoding.{encoded}
 use Rattle.asm_core.specs.Passes.{Planned, plan_with, planned, word_at, line_plan, AddsLine, LaysOut}
-use Rattle.asm_core.specs.Layout.{laid_out, label_in}
-use Rattle.asm_core.specs.Sources.{Known, known_after, known_at, line_at, names_before, address_of, all_names, fault_1, fault_with, overlaps, bytes_of, cell_in, NoFault}
+use Rattle.asm_core.specs.Layout.{laid_out, label_in, encoded, count_between}
+use Rattle.asm_core.specs.Sources.{Known, known_after, known_at, line_at, names_before, address_of, all_names, fault_1, fault_with, overlaps, bytes_of, cell_in, NoFault, count_of, label_value}
 use Rattle.asm_core.specs.declared.fault.AsmCause.TheVariants.{Overlap}
 use Rattle.asm_core.specs.Surveys.{Table, known, seen, Guesses, Looks, HasNoLines, AddsFound, PutsLine}
 use Rattle.asm_core.specs.Told.{Seen, guessed_from, seen_after, finding_from, seen_first, seen_next, seen_at, finding_1, told_1, note_at, kept_before, cause_2, finding_2, word_from, told_2, IsEachOf}
@@ -133,8 +132,15 @@ module _ (isa : Isa) (source : List (List ℕ)) where
     place : planned.at ≡ address_of isa source number
     place = ap (λ (p : LinePlan). p.at) is ∙ laid.placed number (omega arith)
 
-    place_next : planned.next ≡ address_of isa source (number + 1)
-    place_next = ap (λ (p : LinePlan). p.next) is ∙ laid.placed (number + 1) (omega arith)
+    as_many : planned.count ≡ count_of isa source number
+    as_many =
+        let next = slice_index plan.addresses (number + 1) in
+        let step : number + 1 ≡ suc number = omega arith in
+        ap (λ (p : LinePlan). p.count) is
+        ∙ ap (λ v. count_between v (slice_index plan.addresses number) next) (laid.valued number below)
+        ∙ ap (λ a. count_between (label_value isa source number) a next) (laid.placed number (omega arith))
+        ∙ ap (count_between (label_value isa source number) (address_of isa source number))
+        (laid.placed (number + 1) (omega arith) ∙ ap (λ n. address_of isa source n) step)
 
     pub low_there : planned.at ≤ 65536
     low_there = omega (arith, place, laid.low number (omega arith))
@@ -146,28 +152,28 @@ module _ (isa : Isa) (source : List (List ℕ)) where
         subst P (sym (ap (λ (p : LinePlan). p.word) is)) (subst Q here (laid.read number below))
 
     -- its bytes fit
-    pub fits_there : (bytes : List ℕ) → encoded isa (names_before isa source number) (value_in plan.names) planned.at planned.next line ≡ Ok bytes
+    pub fits_there : (bytes : List ℕ) → encoded isa (names_before isa source number) (value_in plan.names) planned.at planned.count line ≡ Ok bytes
         → planned.at + length bytes ≤ 65536
     fits_there bytes e =
         let before = names_before isa source number in
         let names = value_in plan.names in
         let fits = bytes_fit isa source plan laid number below names bytes
-        (ap (λ at. encoded isa before names at (address_of isa source (number + 1)) (line_at source number)) (sym place)
-        ∙ ap (λ next. encoded isa before names planned.at next (line_at source number)) (sym place_next)
-        ∙ ap (encoded isa before names planned.at planned.next) here ∙ e) in
+        (ap (λ at. encoded isa before names at (count_of isa source number) (line_at source number)) (sym place)
+        ∙ ap (λ count. encoded isa before names planned.at count (line_at source number)) (sym as_many)
+        ∙ ap (encoded isa before names planned.at planned.count) here ∙ e) in
         omega (arith, place, fits)
 
-    module _ (cells : List (Option Cell)) (so_far : (address : ℕ) → entry cells address ≡ kept_before isa source number address) (new : List (Option Cell)) (told : Option Finding) (puts : PutsLine (finding_2 isa (value_in plan.names) planned.at planned.word line) cells new (number + 1) planned.at (encoded isa (names_before isa source number) (value_in plan.names) planned.at planned.next line) told) where
+    module _ (cells : List (Option Cell)) (so_far : (address : ℕ) → entry cells address ≡ kept_before isa source number address) (new : List (Option Cell)) (told : Option Finding) (puts : PutsLine (finding_2 isa (value_in plan.names) planned.at planned.word line) cells new (number + 1) planned.at (encoded isa (names_before isa source number) (value_in plan.names) planned.at planned.count line) told) where
       same_kept : entry cells ≡ kept_before isa source number
       same_kept = λ i address. so_far address i
 
-      made_is : bytes_of isa source number ≡ encoded isa (names_before isa source number) (value_in plan.names) planned.at planned.next line
-      made_is = bytes_here isa source plan laid number below line planned.at planned.next here place place_next
+      made_is : bytes_of isa source number ≡ encoded isa (names_before isa source number) (value_in plan.names) planned.at planned.count line
+      made_is = bytes_here isa source plan laid number below line planned.at planned.count here place as_many
 
-      fault_is : fault_with (entry cells) planned.at (encoded isa (names_before isa source number) (value_in plan.names) planned.at planned.next line)
+      fault_is : fault_with (entry cells) planned.at (encoded isa (names_before isa source number) (value_in plan.names) planned.at planned.count line)
           ≡ fault_with (kept_before isa source number) (address_of isa source number) (bytes_of isa source number)
       fault_is =
-          let made = encoded isa (names_before isa source number) (value_in plan.names) planned.at planned.next line in
+          let made = encoded isa (names_before isa source number) (value_in plan.names) planned.at planned.count line in
           ap (λ kept. fault_with kept planned.at made) same_kept
           ∙ ap (λ a. fault_with (kept_before isa source number) a made) place
           ∙ ap (fault_with (kept_before isa source number) (address_of isa source number)) (sym made_is)
@@ -192,7 +198,7 @@ module _ (isa : Isa) (source : List (List ℕ)) where
       unfolding kept_before
       kept_more address =
           let step : suc number ≡ number + 1 = omega arith in
-          let made = encoded isa (names_before isa source number) (value_in plan.names) planned.at planned.next line in
+          let made = encoded isa (names_before isa source number) (value_in plan.names) planned.at planned.count line in
           puts.put address
           ∙ ap (λ o. option_or o (cond (is_some (fault_with (entry cells) planned.at made)) None
           (cell_in (number + 1) planned.at (result_unwrap_or made []) address))) (so_far address)

@@ -1,23 +1,24 @@
--- Pass 2 over one line: its bytes.
-use Rattle.std.specs.Prelude.{◌+◌, ◌-◌, ◌/◌, ◌%◌, ◌==◌, ℕ, Bool, true, false, List, [], ◌∷◌, nat_lt, map, flat_map, replicate, if◌then◌else◌, Option, None, Some, Result, Ok, Err, is_err}
+-- The bytes of instructions and of data, by the values of their operands.
+use Rattle.std.specs.Prelude.{◌+◌, ◌/◌, ◌%◌, ◌==◌, ℕ, Bool, true, false, List, [], ◌∷◌, nat_lt, map, if◌then◌else◌, Result, Ok, Err, is_err}
 use Rattle.std.specs.List.{list_any}
 use Rattle.std.specs.Result.{result_map_both, result_unwrap_or}
-use Rattle.asm_lex.specs.declared.shape.Word.{Word}
-use Rattle.asm_lex.specs.declared.shape.Word.TheVariants.{Code, Instruction, Org, Equ, EquRegister, Db, Dw, Ds, Page}
 use Rattle.asm_lex.specs.declared.shape.ValueFault.{ValueFault}
 use Rattle.asm_lex.specs.declared.shape.ValueFault.TheVariants as value
-use Rattle.asm_lex.specs.Lines.{parsed}
 use Rattle.asm_lex.specs.Words.{size_at}
 use Rattle.asm_core.specs.declared.fault.AsmCause.{AsmCause}
-use Rattle.asm_core.specs.declared.fault.AsmCause.TheVariants.{OffPage}
+use Rattle.asm_core.specs.declared.fault.AsmCause.TheVariants.{Undefined, Range, OffPage}
 use Rattle.asm_lex.specs.declared.shape.Isa.{Isa}
 use Rattle.asm_lex.specs.declared.shape.Isa.TheVariants.{Cdp1802, Chip8}
 use Rattle.asm_lex.specs.Names.{Names}
-use Rattle.asm_lex.specs.Forms.{most_of, last_operand}
+use Rattle.asm_lex.specs.Forms.{most_of}
 use Rattle.chip8_words.specs.declared.code.Op.{Op}
 use Rattle.chip8_words.specs.Codes.{encoded as opcode_of_parts}
-use Rattle.asm_core.specs.Names.{operand_value, first_operand}
-use Rattle.asm_core.specs.Layout.{value_cause, from_parts}
+use Rattle.asm_core.specs.Names.{operand_value}
+
+-- the cause of an expression's value
+abbrev pub value_cause : ValueFault → AsmCause
+value_cause value.Undefined = Undefined
+value_cause value.Range = Range
 
 -- a word's bytes, the high one first
 abbrev pub word_bytes : ℕ → List ℕ
@@ -69,20 +70,3 @@ op_bytes names at op operand =
     if nat_lt 0 (most_of op.form) then
     result_map_both (λ number. word_bytes (opcode_of_parts (with_number op number))) value_cause (operand_value Chip8 names at (most_of op.form) operand)
     else Ok (word_bytes (opcode_of_parts op))
-
--- the bytes of a line by its parts, which stands from the address `at` up to `next`
-unfoldable pub encoded_parts : Isa → Names → ℕ → ℕ → Option Word → List (List ℕ) → Result (List ℕ) AsmCause
-encoded_parts isa names at next None operands = Ok []
-encoded_parts isa names at next (Some (Code opcode)) operands = instruction names at opcode (first_operand operands)
-encoded_parts isa names at next (Some (Instruction op)) operands = op_bytes names at op (last_operand operands)
-encoded_parts isa names at next (Some Org) operands = Ok []
-encoded_parts isa names at next (Some Equ) operands = Ok []
-encoded_parts isa names at next (Some (EquRegister register)) operands = Ok []
-encoded_parts isa names at next (Some Db) operands = result_map_both (λ bytes. bytes) value_cause (values_of isa names at 255 operands)
-encoded_parts isa names at next (Some Dw) operands = result_map_both (flat_map word_bytes) value_cause (values_of isa names at 65535 operands)
-encoded_parts isa names at next (Some Ds) operands = Ok (replicate (next - at) 0)
-encoded_parts isa names at next (Some Page) operands = Ok []
-
--- pass 2 over a line, which is read with the names of the earlier lines, and has its values of those of all lines
-unfoldable pub encoded : Isa → Names → Names → ℕ → ℕ → List ℕ → Result (List ℕ) AsmCause
-encoded isa earlier names at next line = from_parts (λ line. encoded_parts isa names at next line.word line.operands) (parsed isa earlier line)

@@ -1,5 +1,5 @@
--- Pass 1 over one line: the value of its label, and the address behind it.
-use Rattle.std.specs.Prelude.{◌+◌, ◌*◌, ◌/◌, ◌||◌, ◌&&◌, ℕ, Bool, false, List, length, nat_lt, nat_le, if◌then◌else◌, Option, None, Some, is_some, Result, Ok, Err}
+-- A line in both passes: in pass 1 the value of its label and the address behind it, in pass 2 its bytes.
+use Rattle.std.specs.Prelude.{◌+◌, ◌-◌, ◌*◌, ◌/◌, ◌||◌, ◌&&◌, ◌==◌, ℕ, Bool, false, List, [], length, flat_map, replicate, nat_lt, nat_le, if◌then◌else◌, Option, None, Some, is_some, Result, Ok, Err}
 use Rattle.std.specs.Option.{option_map_or}
 use Rattle.std.specs.Result.{result_map_both}
 use Rattle.std.specs.List.{list_any}
@@ -10,11 +10,12 @@ use Rattle.asm_lex.specs.declared.shape.LexFault.TheVariants as lex
 use Rattle.asm_lex.specs.declared.shape.ValueFault.{ValueFault}
 use Rattle.asm_lex.specs.declared.shape.ValueFault.TheVariants as value
 use Rattle.asm_lex.specs.Expressions.{has_large_number}
+use Rattle.asm_lex.specs.Forms.{last_operand}
 use Rattle.asm_lex.specs.Lines.{Parsed, parsed}
 use Rattle.asm_lex.specs.Words.{size_at}
 use Rattle.asm_core.specs.declared.layout.Laid.{Laid}
 use Rattle.asm_core.specs.declared.fault.AsmCause.{AsmCause}
-use Rattle.asm_core.specs.declared.fault.AsmCause.TheVariants.{BadText, UnknownMnemonic, BadOperand, Range, Duplicate, Undefined, TooLarge}
+use Rattle.asm_core.specs.declared.fault.AsmCause.TheVariants.{BadText, UnknownMnemonic, BadOperand, Range, Duplicate, TooLarge}
 use Rattle.asm_lex.specs.declared.shape.Isa.{Isa}
 use Rattle.asm_lex.specs.declared.shape.SymbolValue.{SymbolValue}
 use Rattle.asm_lex.specs.declared.shape.SymbolValue.TheVariants.{Number, Register}
@@ -23,16 +24,13 @@ use Rattle.asm_core.specs.declared.layout.LabelValue.{LabelValue}
 use Rattle.asm_core.specs.declared.layout.LabelValue.TheVariants.{Address, Given}
 use Rattle.asm_lex.specs.Ranges.{origin_of, last_of}
 use Rattle.asm_core.specs.Names.{operand_value, first_operand}
+use Rattle.asm_core.specs.Encoding.{value_cause, word_bytes, values_of, instruction, op_bytes}
 
--- the causes of a line by itself, and of an expression's value
+-- the cause of a line by itself
 abbrev pub cause_of : LexFault → AsmCause
 cause_of lex.BadText = BadText
 cause_of lex.UnknownMnemonic = UnknownMnemonic
 cause_of lex.BadOperand = BadOperand
-
-abbrev pub value_cause : ValueFault → AsmCause
-value_cause value.Undefined = Undefined
-value_cause value.Range = Range
 
 -- the value of a line's label, and the address behind the line
 abbrev pub laid : LabelValue → ℕ → Laid
@@ -61,7 +59,7 @@ at_least least (Ok found) = if nat_le least found then Ok found else Err value.R
 abbrev pub org_address : Isa → Names → ℕ → List ℕ → Result ℕ ValueFault
 org_address isa names at operand = at_least (origin_of isa) (operand_value isa names at (last_of isa) operand)
 
--- what a word does to the address at which its line begins; ORG, EQU and DS take their operand's value at once
+-- what a word does to the address at which its line begins; directives take the value of their one operand at once
 unfoldable pub placed : Isa → Names → ℕ → Option Word → List (List ℕ) → Result Laid ValueFault
 placed isa names at None operands = Ok (laid (Address at) at)
 placed isa names at (Some (Code opcode)) operands = Ok (laid (Address at) (at + size_at opcode))
@@ -116,3 +114,20 @@ label_from (Err fault) = None
 
 unfoldable pub label_in : Isa → Names → List ℕ → Option (List ℕ)
 label_in isa names line = label_from (parsed isa names line)
+
+-- how many bytes a line has: those up to the next address, unless it moves the address or gives its label another value
+abbrev pub count_between : LabelValue → ℕ → ℕ → ℕ
+count_between (Address address) at next = if address == at then next - at else 0
+count_between (Given value) at next = 0
+
+-- the bytes of a line by its parts, which stands at the address `at` and has `count` bytes: what has no data is so much room
+unfoldable pub encoded_parts : Isa → Names → ℕ → ℕ → Option Word → List (List ℕ) → Result (List ℕ) AsmCause
+encoded_parts isa names at count (Some (Code opcode)) operands = instruction names at opcode (first_operand operands)
+encoded_parts isa names at count (Some (Instruction op)) operands = op_bytes names at op (last_operand operands)
+encoded_parts isa names at count (Some Db) operands = result_map_both (λ bytes. bytes) value_cause (values_of isa names at 255 operands)
+encoded_parts isa names at count (Some Dw) operands = result_map_both (flat_map word_bytes) value_cause (values_of isa names at 65535 operands)
+encoded_parts isa names at count _ operands = Ok (replicate count 0)
+
+-- pass 2 over a line, which is read with the names of the earlier lines, and has its values of those of all lines
+unfoldable pub encoded : Isa → Names → Names → ℕ → ℕ → List ℕ → Result (List ℕ) AsmCause
+encoded isa earlier names at count line = from_parts (λ line. encoded_parts isa names at count line.word line.operands) (parsed isa earlier line)

@@ -15,7 +15,7 @@ use Rattle.asm_lex.specs.Lines.{Reads}
 use Rattle.asm_core.specs.declared.layout.LabelValue.{LabelValue}
 use Rattle.asm_core.specs.declared.layout.LabelValue.TheVariants.{Address}
 use Rattle.asm_core.specs.Names.{with_label}
-use Rattle.asm_core.specs.Layout.{laid_out, label_in, symbol_value}
+use Rattle.asm_core.specs.Layout.{laid_out, label_in, symbol_value, count_between}
 use Rattle.asm_core.specs.Made.{IsAssembly}
 use Rattle.asm_core.specs.Sources.{NoFault, fault_1, line_at, names_before, address_of, label_value}
 
@@ -58,7 +58,13 @@ pub record LaysOut (isa : Isa) (source : List (List ℕ)) (count : ℕ) (plan : 
 
 -- where pass 1 placed a line
 abbrev pub line_plan : Planned → ℕ → LinePlan
-line_plan plan i = record { at = slice_index plan.addresses i; next = slice_index plan.addresses (i + 1); word = word_at plan.words i }
+line_plan plan i =
+    let at = slice_index plan.addresses i in
+    record {
+      at = at;
+      count = count_between (slice_index_or plan.values i (Address 0)) at (slice_index plan.addresses (i + 1));
+      word = word_at plan.words i;
+    }
 
 -- what both passes found of a source without a fault
 pub record IsFound (isa : Isa) (source : List (List ℕ)) (plan : Planned) (cells : List (Option Cell)) : Type 0 where

@@ -14,8 +14,7 @@ use Rattle.asm_lex.specs.Ranges.{origin_of}
 use Rattle.asm_core.specs.Names.{with_label}
 use Rattle.asm_core.specs.declared.layout.Laid.{Laid}
 use Rattle.asm_core.specs.declared.table.Cell.{Cell}
-use Rattle.asm_core.specs.Layout.{laid_out, label_in, symbol_value}
-use Rattle.asm_core.specs.Encoding.{encoded}
+use Rattle.asm_core.specs.Layout.{laid_out, label_in, symbol_value, count_between, encoded}
 
 -- The lines of a source: each ends with a newline byte, and a carriage return directly before it is dropped. A last line without a
 -- newline counts where it isn't empty.
@@ -61,7 +60,7 @@ all_names isa source = names_before isa source (length source)
 unfoldable pub fault_1 : Isa → List (List ℕ) → ℕ → Option AsmCause
 fault_1 isa source i = result_err (laid_out isa (names_before isa source i) (address_of isa source i) (line_at source i))
 
--- the value that a label of line i has, or would have: that of EQU, the new address for ORG and PAGE, else the line's own address
+-- the value that a label of line i has, or would have: that of EQU, the new address where the line moves it, else the line's own address
 abbrev pub value_from : Result Laid AsmCause → LabelValue
 value_from (Ok laid) = laid.value
 value_from (Err cause) = Address 0
@@ -69,10 +68,14 @@ value_from (Err cause) = Address 0
 unfoldable pub label_value : Isa → List (List ℕ) → ℕ → LabelValue
 label_value isa source i = value_from (laid_out isa (names_before isa source i) (address_of isa source i) (line_at source i))
 
+-- how many bytes line i has
+abbrev pub count_of : Isa → List (List ℕ) → ℕ → ℕ
+count_of isa source i = count_between (label_value isa source i) (address_of isa source i) (address_of isa source (suc i))
+
 -- the bytes of line i; byte j of it has the address of the line, and j
 unfoldable pub bytes_of : Isa → List (List ℕ) → ℕ → Result (List ℕ) AsmCause
 bytes_of isa source i =
-    encoded isa (names_before isa source i) (all_names isa source) (address_of isa source i) (address_of isa source (suc i)) (line_at source i)
+    encoded isa (names_before isa source i) (all_names isa source) (address_of isa source i) (count_of isa source i) (line_at source i)
 
 -- the byte at an address among those of one line
 abbrev pub cell_in : ℕ → ℕ → List ℕ → ℕ → Option Cell

@@ -2,6 +2,7 @@
 
 ghost use Rattle.std.specs.Prelude.{◌≡◌};
 ghost use Rattle.asm_lex.specs.Names.{value_in, number_named};
+ghost use Rattle.asm_core.specs.Layout.{count_between};
 
 use crate::layout::LabelValue;
 use crate::table::Cell;
@@ -26,6 +27,18 @@ pub struct LinePlace {
     pub at: u32,
     /// The address behind the line, at most 65,536.
     pub next: u32,
+}
+
+impl LinePlace {
+    /// How many bytes the line has: those up to the next address, unless it moves the address or gives its label another value.
+    pub fn byte_count(&self) -> u32
+        ensures { result ≡ count_between self.now.value self.now.at self.now.next }
+    {
+        match self.value {
+            LabelValue::Address(address) if address == self.at => self.next.saturating_sub(self.at),
+            _ => 0,
+        }
+    }
 }
 
 impl Model for Assembly {

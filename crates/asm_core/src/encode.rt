@@ -1,23 +1,22 @@
-//! Pass 2 over one line.
+//! The bytes of instructions and of data.
 
 ghost use Rattle.std.specs.Prelude.{◌≡◌, ◌≤◌, ◌+◌, ◌/◌, ◌%◌, ◌∷◌, [], ◌==◌, ℕ, List, length, map, All, Some, flat_map, IsTrue, IfOk, MatchResult, Ok, Err};
 ghost use Rattle.asm_lex.specs.Words.{HasItsOperands, size_at, is_one};
+ghost use Rattle.asm_lex.specs.declared.shape.Word.TheVariants.{Code};
 ghost use Rattle.asm_lex.specs.Expressions.{is_expression};
 ghost use Rattle.asm_lex.specs.Forms.{HasItsNumber, last_operand, most_of};
-ghost use Rattle.asm_lex.specs.Lines.{operands_of, Reads};
-ghost use Rattle.asm_lex.specs.Parts.{code_of};
-ghost use Rattle.asm_lex.specs.Names.{Names, value_in};
+ghost use Rattle.asm_lex.specs.Names.{value_in};
 ghost use Rattle.asm_lex.specs.Spans.{text_at, AreWithin};
 ghost use Rattle.asm_core.specs.Names.{first_operand};
-ghost use Rattle.asm_core.specs.Encoding.{word_bytes, to_page, instruction, with_number, op_bytes, encoded_parts, encoded};
+ghost use Rattle.asm_core.specs.Encoding.{word_bytes, to_page, instruction, with_number, op_bytes};
 ghost use Rattle.asm_core.specs.Bytes.{bytes_in};
 
 use crate::fault::{AsmCause, value_cause};
-use crate::layout::size_at;
-use crate::values::{last_value, one_value, values_of};
+use crate::values::{last_value, one_value};
 use arrayvec::ArrayVec;
-use asm_lex::{Isa, Span, Symbols, Word, operands};
+use asm_lex::{Isa, Span, Symbols};
 use chip8_words::{Form, Op, Operand, encode};
+use vip_isa::size;
 
 /// The bytes of a line.
 #[derive(Drop)]
@@ -38,10 +37,12 @@ pub(crate) fn byte_count(bytes: &Bytes) -> u32
     }
 }
 
-fn no_bytes() -> Bytes
-    ensures { bytes_in result ≡ [] }
+#[tactic(auto, unfolding(asm_lex::specs::Words::size_at))]
+pub(crate) fn size_at(opcode: u8) -> u8
+    ensures size { result ≡ size_at opcode }
+    ensures most { result ≤ 3 }
 {
-    Bytes::Zeros(0)
+    size(opcode)
 }
 
 // The high and the low byte of a word.
@@ -101,14 +102,14 @@ fn to_page(at: u32, opcode: u8, target: u16) -> Result<Bytes, AsmCause>
 }
 
 #[tactic(auto, unfolding(crate::specs::Encoding::instruction))]
-fn instruction(
+pub(crate) fn instruction(
     names: &Symbols,
     at: u32,
     opcode: u8,
     line: &[u8],
     operands: &[Span],
 ) -> Result<Bytes, AsmCause>
-    requires operands { HasItsOperands Isa.Cdp1802 (Some (Word.Code opcode)) (map (text_at line.now) operands.now) }
+    requires operands { HasItsOperands Isa.Cdp1802 (Some (Code opcode)) (map (text_at line.now) operands.now) }
     requires within { AreWithin line.now operands.now }
     requires short { length line.now ≤ 255 }
     requires at { at ≤ 65536 }
@@ -153,7 +154,7 @@ fn most_of(form: Form) -> u16
 }
 
 #[tactic(auto, unfolding(crate::specs::Encoding::op_bytes))]
-fn op_bytes(
+pub(crate) fn op_bytes(
     names: &Symbols,
     at: u32,
     op: Op,
@@ -184,7 +185,7 @@ fn with_number(op: Op, number: u16) -> Op
     Op { number, ..op }
 }
 
-fn bytes_from(values: &[u16]) -> Bytes
+pub(crate) fn bytes_from(values: &[u16]) -> Bytes
     requires few { length values.now ≤ 128 }
     requires bytes { All (λ value. value ≤ 255) values.now }
     ensures { bytes_in result ≡ values.now }
@@ -196,7 +197,7 @@ fn bytes_from(values: &[u16]) -> Bytes
     Bytes::Given(bytes)
 }
 
-fn words_from(values: &[u16]) -> Bytes
+pub(crate) fn words_from(values: &[u16]) -> Bytes
     requires few { length values.now ≤ 128 }
     ensures { bytes_in result ≡ flat_map word_bytes values.now }
 {
@@ -207,63 +208,4 @@ fn words_from(values: &[u16]) -> Bytes
         bytes.push(low);
     }
     Bytes::Given(bytes)
-}
-
-// The bytes of a line by its parts, which stands from the address `at` up to `next`.
-#[tactic(auto, unfolding(crate::specs::Encoding::encoded_parts))]
-fn encode_parts(
-    isa: Isa,
-    names: &Symbols,
-    at: u32,
-    next: u32,
-    line: &[u8],
-    word: Option<Word>,
-    operands: &[Span],
-) -> Result<Bytes, AsmCause>
-    requires operands { HasItsOperands isa word (map (text_at line.now) operands.now) }
-    requires within { AreWithin line.now operands.now }
-    requires short { length line.now ≤ 255 }
-    requires few { length operands.now ≤ 128 }
-    requires at { at ≤ 65536 }
-    ensures { MatchResult result
-        (λ bytes. encoded_parts isa (value_in names.now) at next word (map (text_at line.now) operands.now) ≡ Ok (bytes_in bytes))
-        (λ cause. encoded_parts isa (value_in names.now) at next word (map (text_at line.now) operands.now) ≡ Err cause) }
-{
-    match word {
-        None | Some(Word::Org) | Some(Word::Page) => Ok(no_bytes()),
-        Some(Word::Equ) | Some(Word::EquRegister(_)) => Ok(no_bytes()),
-        Some(Word::Code(opcode)) => instruction(names, at, opcode, line, operands),
-        Some(Word::Instruction(op)) => op_bytes(names, at, op, line, operands),
-        Some(Word::Ds) => Ok(Bytes::Zeros(next.saturating_sub(at))),
-        Some(Word::Db) => match values_of(isa, names, at, 255, line, operands) {
-            Ok(values) => Ok(bytes_from(values.as_slice())),
-            Err(fault) => Err(value_cause(fault)),
-        },
-        Some(Word::Dw) => match values_of(isa, names, at, u16::MAX, line, operands) {
-            Ok(values) => Ok(words_from(values.as_slice())),
-            Err(fault) => Err(value_cause(fault)),
-        },
-    }
-}
-
-/// The bytes of a line that stands from the address `at` up to `next`, and has this word, where `names` are those of all lines.
-#[tactic(auto, unfolding(crate::specs::Encoding::encoded))]
-pub(crate) fn encode_line(
-    isa: Isa,
-    names: &Symbols,
-    at: u32,
-    next: u32,
-    word: Option<Word>,
-    bytes: &[u8],
-) -> Result<Bytes, AsmCause>
-    requires line { HasItsOperands isa word (operands_of (code_of bytes.now)) }
-    requires short { length bytes.now ≤ 255 }
-    requires few { length (operands_of (code_of bytes.now)) ≤ 128 }
-    requires at { at ≤ 65536 }
-    ensures { (earlier : Names) → Reads isa earlier bytes.now word → MatchResult result
-        (λ made. encoded isa earlier (value_in names.now) at next bytes.now ≡ Ok (bytes_in made))
-        (λ cause. encoded isa earlier (value_in names.now) at next bytes.now ≡ Err cause) }
-{
-    let operands = operands(bytes);
-    encode_parts(isa, names, at, next, bytes, word, operands.as_slice())
 }

@@ -2,7 +2,8 @@
 
 ghost use Rattle.std.specs.Prelude.{◌≡◌};
 ghost use Rattle.asm_core.specs.FaultNames.{asm_cause_name};
-ghost use Rattle.asm_core.specs.Layout.{cause_of, value_cause};
+ghost use Rattle.asm_core.specs.Layout.{cause_of};
+ghost use Rattle.asm_core.specs.Encoding.{value_cause};
 
 use asm_lex::{LexFault, ValueFault};
 use std::alloc::{AllocError, AllocFailed};
@@ -22,7 +23,7 @@ pub enum AsmCause {
     Range = 4,
     /// A label that an earlier line has.
     Duplicate = 5,
-    /// A name that no line defines, or in ORG, EQU and DS none that an earlier line does.
+    /// A name that no line defines, or none that an earlier line does where a directive takes the value at once.
     Undefined = 6,
     /// A short branch whose target isn't in the page of its second byte.
     OffPage = 7,

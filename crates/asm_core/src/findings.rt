@@ -4,17 +4,18 @@ ghost use Rattle.std.specs.Prelude.{◌≡◌, ◌≤◌, ◌<◌, ◌+◌, ◌+
 ghost use Rattle.asm_lex.specs.Lines.{Reads};
 ghost use Rattle.asm_lex.specs.Names.{Names, value_in};
 ghost use Rattle.asm_lex.specs.Notes.{note_in};
-ghost use Rattle.asm_core.specs.Encoding.{encoded};
+ghost use Rattle.asm_core.specs.Layout.{encoded};
 ghost use Rattle.asm_core.specs.Limits.{most_bytes};
 ghost use Rattle.asm_core.specs.Passes.{LaysOut, IsFound, line_plan, planned};
 ghost use Rattle.asm_core.specs.Sources.{source_lines};
 ghost use Rattle.asm_core.specs.Told.{label_if_name, guessed_label, with_colon, is_sure, sure_finding, finding_2, seen_at, kept_before, told_1, told_2, IsEachOf, AreTold, AreNoted, NothingTold, AgreesWithFaults};
 ghost use Rattle.asm_core.specs.Surveys.{Learns, Guesses, Looks, HasNoLines, AddsFound, PutsLine};
 
+use crate::assembly::LinePlace;
 use crate::culprit::{culprit_1, culprit_2, large_number};
-use crate::encode::{Bytes, byte_count, encode_line};
+use crate::encode::{Bytes, byte_count};
 use crate::fault::{AsmCause, AsmFault};
-use crate::layout::{LabelValue, Laid, lay_out, origin_of, symbol_value};
+use crate::layout::{LabelValue, Laid, encode_line, lay_out, origin_of, symbol_value};
 use crate::passes::Plan;
 use crate::source::next_line;
 use crate::table::{Cell, empty_table, overlaps, place};
@@ -299,22 +300,28 @@ fn finding_2(
     Finding { cause, place }
 }
 
-// Where pass 1 placed a line: the address at which it begins, the one behind it, and its word.
+// Where pass 1 placed a line: the address at which it begins, how many bytes it has, and its word.
 #[derive(Clone, Copy)]
 struct LinePlan {
     at: u32,
-    next: u32,
+    count: u32,
     word: Option<Word>,
 }
 
 fn line_plan(plan: &Plan, index: usize) -> LinePlan
     requires addresses { index + 1 < length plan.now.addresses.items }
     requires words { index < length plan.now.words.items }
+    requires values { index < length plan.now.values.items }
     ensures { result ≡ line_plan (planned plan.now) index }
 {
-    LinePlan {
+    let place = LinePlace {
+        value: plan.values[index],
         at: plan.addresses[index],
         next: plan.addresses[index + 1],
+    };
+    LinePlan {
+        at: place.at,
+        count: place.byte_count(),
         word: plan.words[index],
     }
 }
@@ -331,13 +338,13 @@ fn put_line(
     requires at { plan.at ≤ 65536 }
     requires cells { length cells.old.items ≡ 65536 }
     requires line { (earlier : Names) × Reads isa earlier line.now plan.word
-        × ((bytes : List ℕ) → encoded isa earlier (value_in names.now) plan.at plan.next line.now ≡ Ok bytes → plan.at + length bytes ≤ 65536) }
+        × ((bytes : List ℕ) → encoded isa earlier (value_in names.now) plan.at plan.count line.now ≡ Ok bytes → plan.at + length bytes ≤ 65536) }
     ensures count { length cells.new.items ≡ length cells.old.items }
     ensures told { (earlier : Names) → Reads isa earlier line.now plan.word →
         PutsLine (finding_2 isa (value_in names.now) plan.at plan.word line.now) cells.old.items cells.new.items number plan.at
-        (encoded isa earlier (value_in names.now) plan.at plan.next line.now) result }
+        (encoded isa earlier (value_in names.now) plan.at plan.count line.now) result }
 {
-    let bytes = match encode_line(isa, names, plan.at, plan.next, plan.word, line) {
+    let bytes = match encode_line(isa, names, plan.at, plan.count, plan.word, line) {
         Ok(bytes) => bytes,
         Err(cause) => return Some(finding_2(isa, names, plan.at, plan.word, line, cause)),
     };

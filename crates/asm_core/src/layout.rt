@@ -1,25 +1,27 @@
-//! Pass 1 over one line.
+//! A line in both passes: in pass 1 the value of its label and the address behind it, in pass 2 its bytes.
 
 ghost use Rattle.std.specs.Prelude.{◌≡◌, ◌≤◌, ◌+◌, ◌/◌, ◌*◌, ℕ, Bool, List, length, map, IsTrue, IfOk, IfSome, MatchResult, option_map, IsSome, not, Ok, Err};
 ghost use Rattle.std.specs.Bool.{OnFalse};
-ghost use Rattle.asm_lex.specs.Words.{HasItsOperands, is_one, size_at};
+ghost use Rattle.asm_lex.specs.Words.{HasItsOperands, is_one};
 ghost use Rattle.asm_lex.specs.Spans.{text_at, AreWithin, IsWithin};
 ghost use Rattle.asm_lex.specs.Expressions.{is_expression};
-ghost use Rattle.asm_lex.specs.Lines.{Reads};
-ghost use Rattle.asm_lex.specs.Names.{value_in, IsValue};
+ghost use Rattle.asm_lex.specs.Lines.{operands_of, Reads};
+ghost use Rattle.asm_lex.specs.Names.{Names, value_in, IsValue};
+ghost use Rattle.asm_lex.specs.Parts.{code_of};
 ghost use Rattle.asm_lex.specs.Ranges.{origin_of, last_of};
 ghost use Rattle.asm_core.specs.Names.{first_operand};
-ghost use Rattle.asm_core.specs.Layout.{laid, symbol_value, HasItsValue, page_above, org_address, placed, is_past, is_too_large, judged, laid_out, label_in, is_duplicate};
+ghost use Rattle.asm_core.specs.Bytes.{bytes_in};
+ghost use Rattle.asm_core.specs.Layout.{encoded, encoded_parts, laid, symbol_value, HasItsValue, page_above, org_address, placed, is_past, is_too_large, judged, laid_out, label_in, is_duplicate};
 
+use crate::encode::{Bytes, bytes_from, instruction, op_bytes, size_at, words_from};
 use crate::fault::{AsmCause, cause_of, value_cause};
-use crate::values::{has_large_number_in, one_value};
-use asm_lex::{Isa, Span, SymbolValue, Symbols, ValueFault, Word, line, text_at};
-use vip_isa::size;
+use crate::values::{has_large_number_in, one_value, values_of};
+use asm_lex::{Isa, Span, SymbolValue, Symbols, ValueFault, Word, line, operands, text_at};
 
 /// The value that a label of a line has or would have.
 #[derive(Clone, Copy)]
 pub enum LabelValue {
-    /// An address, at most 65,536: the new one for ORG and PAGE, else the one at which the line begins.
+    /// An address, at most 65,536: the new one where the line moves it, else the one at which the line begins.
     Address(u32),
     /// What EQU gives.
     Given(SymbolValue),
@@ -32,14 +34,6 @@ pub(crate) struct Laid {
     pub value: LabelValue,
     /// The address behind it.
     pub next: u32,
-}
-
-#[tactic(auto, unfolding(asm_lex::specs::Words::size_at))]
-pub(crate) fn size_at(opcode: u8) -> u8
-    ensures size { result ≡ size_at opcode }
-    ensures most { result ≤ 3 }
-{
-    size(opcode)
 }
 
 fn page_above(at: u32) -> u32
@@ -116,19 +110,19 @@ fn place(
         Some(Word::Db) => Ok(behind(at, operands.len() as u32)),
         Some(Word::Dw) => Ok(behind(at, 2 * operands.len() as u32)),
         Some(Word::Page) => Ok(move_to(page_above(at))),
-        Some(Word::Org) => match org_address(isa, names, at, line, operands) {
-            Ok(address) => Ok(move_to(u32::from(address))),
-            Err(fault) => Err(fault),
-        },
-        Some(Word::Equ) => match one_value(isa, names, at, u16::MAX, line, operands) {
-            Ok(value) => Ok(give(SymbolValue::Number(value), at)),
-            Err(fault) => Err(fault),
-        },
+        Some(Word::Org) => {
+            let address = org_address(isa, names, at, line, operands)?;
+            Ok(move_to(u32::from(address)))
+        }
+        Some(Word::Equ) => {
+            let value = one_value(isa, names, at, u16::MAX, line, operands)?;
+            Ok(give(SymbolValue::Number(value), at))
+        }
         Some(Word::EquRegister(register)) => Ok(give(SymbolValue::Register(register), at)),
-        Some(Word::Ds) => match one_value(isa, names, at, u16::MAX, line, operands) {
-            Ok(count) => Ok(behind(at, u32::from(count))),
-            Err(fault) => Err(fault),
-        },
+        Some(Word::Ds) => {
+            let count = one_value(isa, names, at, u16::MAX, line, operands)?;
+            Ok(behind(at, u32::from(count)))
+        }
     }
 }
 
@@ -273,4 +267,61 @@ pub(crate) fn lay_out(
         }),
         Err(cause) => Err(cause),
     }
+}
+
+// The bytes of a line by its parts, which stands at the address `at` and has `count` bytes.
+#[tactic(auto, unfolding(crate::specs::Layout::encoded_parts))]
+fn encode_parts(
+    isa: Isa,
+    names: &Symbols,
+    at: u32,
+    count: u32,
+    line: &[u8],
+    word: Option<Word>,
+    operands: &[Span],
+) -> Result<Bytes, AsmCause>
+    requires operands { HasItsOperands isa word (map (text_at line.now) operands.now) }
+    requires within { AreWithin line.now operands.now }
+    requires short { length line.now ≤ 255 }
+    requires few { length operands.now ≤ 128 }
+    requires at { at ≤ 65536 }
+    ensures { MatchResult result
+        (λ bytes. encoded_parts isa (value_in names.now) at count word (map (text_at line.now) operands.now) ≡ Ok (bytes_in bytes))
+        (λ cause. encoded_parts isa (value_in names.now) at count word (map (text_at line.now) operands.now) ≡ Err cause) }
+{
+    match word {
+        Some(Word::Code(opcode)) => instruction(names, at, opcode, line, operands),
+        Some(Word::Instruction(op)) => op_bytes(names, at, op, line, operands),
+        Some(Word::Db) => match values_of(isa, names, at, 255, line, operands) {
+            Ok(values) => Ok(bytes_from(values.as_slice())),
+            Err(fault) => Err(value_cause(fault)),
+        },
+        Some(Word::Dw) => match values_of(isa, names, at, u16::MAX, line, operands) {
+            Ok(values) => Ok(words_from(values.as_slice())),
+            Err(fault) => Err(value_cause(fault)),
+        },
+        _ => Ok(Bytes::Zeros(count)),
+    }
+}
+
+/// The bytes of a line that stands at the address `at`, has `count` bytes and this word, where `names` are those of all lines.
+#[tactic(auto, unfolding(crate::specs::Layout::encoded))]
+pub(crate) fn encode_line(
+    isa: Isa,
+    names: &Symbols,
+    at: u32,
+    count: u32,
+    word: Option<Word>,
+    bytes: &[u8],
+) -> Result<Bytes, AsmCause>
+    requires line { HasItsOperands isa word (operands_of (code_of bytes.now)) }
+    requires short { length bytes.now ≤ 255 }
+    requires few { length (operands_of (code_of bytes.now)) ≤ 128 }
+    requires at { at ≤ 65536 }
+    ensures { (earlier : Names) → Reads isa earlier bytes.now word → MatchResult result
+        (λ made. encoded isa earlier (value_in names.now) at count bytes.now ≡ Ok (bytes_in made))
+        (λ cause. encoded isa earlier (value_in names.now) at count bytes.now ≡ Err cause) }
+{
+    let operands = operands(bytes);
+    encode_parts(isa, names, at, count, bytes, word, operands.as_slice())
 }

@@ -25,6 +25,7 @@ line_plan-here-requires c =
     record {
       addresses = omega (arith, here.0, c.requires.plan.count_is);
       words = omega (arith, here.0, c.requires.plan.words_count);
+      values = omega (arith, here.0, c.requires.plan.values_count);
     }
 
 pub put_line-finding-requires : goal.put_line-finding-requires
