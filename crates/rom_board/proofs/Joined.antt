@@ -37,7 +37,7 @@ use Rattle.rom_board.proofs.Agreeing.{past-same, state-same}
 use Rattle.rom_board.proofs.Before.{Before, From, before-states, early-more, early-past, from-run, events-before, late-events, pieces-early, pieces-late}
 use Rattle.rom_board.proofs.Copied.{accepted-file_of, shown-file_of, starts_by}
 use Rattle.rom_board.proofs.Passed.{NoStop, before_point, last_after, last_of_events, no_stop_before}
-use Rattle.rom_board.proofs.BehindSaved.{LastAt, Reaches, ending_behind, from_start, last_at, not_later, point_is}
+use Rattle.rom_board.proofs.LastPoint.{LastAt, Reaches, ending_behind, from_start, last_at, not_later, point_is}
 
 -- ---- the start of a run
 

@@ -4,9 +4,8 @@ pub mod Passed
 pub mod Starts
 pub mod Speaking
 pub mod Frames
-pub mod Onward
 pub mod Copied
-pub mod BehindSaved
+pub mod LastPoint
 pub mod Before
 pub mod Agreeing
 pub mod Joined

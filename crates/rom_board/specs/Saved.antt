@@ -1,52 +1,19 @@
 -- What holds of accepted files, and of those that are written.
-use Rattle.std.specs.Prelude.{◌≡◌, ℕ, ◌<◌, ◌≤◌, List, ◌++◌, length, slice_index, Some}
+use Rattle.std.specs.Prelude.{◌≡◌, ℕ, ◌<◌, ◌≤◌, List, ◌++◌, slice_index, Some}
 use Rattle.machine.specs.Board.{Machine}
 use Rattle.machine.specs.Keys.{Event as KeyEvent, held_at}
 use Rattle.machine.specs.Run.{run_to}
 use Rattle.chip8_lang.specs.declared.view.Edition.{Edition}
-use Rattle.chip8_lang.specs.Events.{Event, events_of, events_behind}
-use Rattle.chip8_lang.specs.State.{memory_size}
-use Rattle.chip8_lang.specs.View.{view_at}
+use Rattle.chip8_lang.specs.Events.{Event, events_behind}
 use Rattle.chip8_image.specs.Interpreters.{interpreter_of}
 use Rattle.vip_relation.specs.Follows.{Fits, last_dispatch}
 use Rattle.vip_relation.specs.State.Start.{Saved}
 use Rattle.vip_relation.specs.State.{Start, events_from, machine_of, most_cycles}
-use Rattle.vip_show.specs.Endings.{ending_after, ending_of}
-use Rattle.vip_show.specs.Output.{picture_pieces, trace_lines}
+use Rattle.vip_show.specs.Endings.{ending_of}
+use Rattle.vip_show.specs.Output.{picture_pieces}
 use Rattle.vip_text.specs.StateFile.{shown, IsAccepted}
-use Rattle.vip_text.specs.declared.trace.TraceColumns.{TraceColumns}
 use Rattle.vip_show.specs.StateOutput.{saved_file}
-use Rattle.vip_show.specs.Points.{points_behind}
 use Rattle.vip_show.specs.Written.{file_of}
-
--- A file and a run up to a limit, whose last dispatch point the file shows: the records of the run up to any later limit are those up to this one,
--- followed by those behind the file's state; and it ends as the run from the file does, whose last instruction at first is the file's.
-pub record IsRest (e : Edition) (game : List ℕ) (script : List KeyEvent) (limit : ℕ) (f : List ℕ) : Type 0 where
-  pub accepted : IsAccepted e f
-  pub shows : last_dispatch (events_of (interpreter_of e) game script limit) ≡ Some (shown f)
-  pub records :
-      (columns : TraceColumns) (later : ℕ)
-      → limit ≤ later
-      → trace_lines e columns (events_of (interpreter_of e) game script later)
-      ≡ trace_lines e columns (events_of (interpreter_of e) game script limit)
-      ++ trace_lines e columns (points_behind (interpreter_of e) script (shown f) later)
-  pub ending :
-      (later : ℕ)
-      → limit ≤ later
-      → ending_of e (events_of (interpreter_of e) game script later)
-      ≡ ending_after e (view_at e (shown f)).pc (view_at e (shown f)).opcode (points_behind (interpreter_of e) script (shown f) later)
-
--- what is saved of a game's run
-abbrev pub SavedGoesOn : Type 0
-SavedGoesOn =
-    (e : Edition) (game : List ℕ)
-    → length game ≤ memory_size e
-    → ((k : ℕ) → slice_index game k < 256)
-    → (script : List KeyEvent) (limit : ℕ)
-    → limit ≤ most_cycles
-    → (f : List ℕ)
-    → saved_file e (events_of (interpreter_of e) game script limit) ≡ Some f
-    → IsRest e game script limit f
 
 -- ---- a run from any start, gone on with
 

@@ -1,13 +1,6 @@
 //! What is proved of accepted files and of those that are written, each law the contract of a function without parameters.
 
-ghost use Rattle.rom_board.specs.Saved.{SavedGoesOn, SavedJoins, WritesTheSame};
-
-/// What is saved of a game's run up to a limit is an accepted file, which shows the machine state at the last dispatch point up to there. Under the same
-/// script, up to every later limit, the records of the game's run are those up to the first limit, followed by those of the run from the file; and the
-/// two runs end in the same way.
-pub fn saved_goes_on()
-    ensures { SavedGoesOn }
-{}
+ghost use Rattle.rom_board.specs.Saved.{SavedJoins, WritesTheSame};
 
 /// What is saved of a run, from a reset or from a saved state, is an accepted file, which shows the machine state at the run's last dispatch point, in
 /// some cycle. Under every script that holds the same keys before that cycle, up to every limit from it on, the run is that up to the cycle followed by

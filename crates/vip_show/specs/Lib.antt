@@ -3,7 +3,6 @@ pub mod Output
 pub mod Answers
 pub mod Run
 pub mod Written
-pub mod Points
 pub mod StateOutput
 pub mod Profile
 pub mod Figures
