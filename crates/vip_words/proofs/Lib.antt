@@ -5,7 +5,6 @@ mod Ends
 mod Flags
 mod Known
 mod Parses
-mod Ranges
 mod Rows
 mod Shown
 mod Steps

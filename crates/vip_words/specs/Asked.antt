@@ -7,10 +7,11 @@ use Rattle.chip8_lang.specs.declared.view.Edition.TheVariants.{Usual, Tall}
 use Rattle.asm_lex.specs.declared.shape.Isa.{Isa}
 use Rattle.asm_lex.specs.declared.shape.Isa.TheVariants.{Cdp1802, Chip8}
 use Rattle.asm_lex.specs.Ranges.{last_of, origin_of}
-use Rattle.vip_byte.specs.Number.{decimal_number, hex_number}
+use Rattle.vip_byte.specs.Number.{decimal_number, hex_number, most_cycles}
 use Rattle.vip_text.specs.Traces.{plain}
 use Rattle.vip_text.specs.declared.trace.TraceColumns.{TraceColumns}
-use Rattle.vip_words.specs.Request.{Asked, most_cycles, most_moves}
+use Rattle.vip_words.specs.Numbers.{Place, most_moves}
+use Rattle.vip_words.specs.Request.{Asked}
 use Rattle.vip_words.specs.Rules.{Given, Word, given_by}
 use Rattle.vip_words.specs.Table.{is_alone, places_of, row, verb_of}
 use Rattle.vip_words.specs.declared.flag.Flag.{Flag}
@@ -22,6 +23,8 @@ use Rattle.vip_words.specs.declared.request.BuiltIn.TheVariants.{Interpreter, Se
 use Rattle.vip_words.specs.declared.request.Entry.{Entry}
 use Rattle.vip_words.specs.declared.request.Entry.TheVariants.{Address, Name}
 use Rattle.vip_words.specs.declared.request.Memory.TheVariants.{Rom, Ram}
+use Rattle.vip_words.specs.declared.request.OwnText.TheVariants as own
+use Rattle.vip_words.specs.declared.request.PlainShow.TheVariants.{Trace, Pictures, State, Profile, Summary}
 use Rattle.vip_words.specs.declared.request.ProgramShow.{ProgramShow}
 use Rattle.vip_words.specs.declared.request.ProgramShow.TheVariants as program
 use Rattle.vip_words.specs.declared.request.Request.TheVariants as request
@@ -29,6 +32,7 @@ use Rattle.vip_words.specs.declared.request.Show.{Show}
 use Rattle.vip_words.specs.declared.request.Show.TheVariants as show
 use Rattle.vip_words.specs.declared.request.Start.{Start}
 use Rattle.vip_words.specs.declared.request.Start.TheVariants as start
+use Rattle.vip_words.specs.declared.request.TextVerb.TheVariants as text
 use Rattle.vip_words.specs.declared.table.Verb.{Verb}
 use Rattle.vip_words.specs.declared.table.Verb.TheVariants as verb
 
@@ -51,8 +55,10 @@ abbrev pub no_less_than : ℕ → ℕ → Option ℕ
 no_less_than least number = if nat_lt number least then None else Some number
 
 -- an address of an instruction set's programs: hexadecimal, from 0 to FFFF for the CDP1802, and from 200 to FFF for CHIP-8
-abbrev pub place_of : Isa → Word → Option ℕ
-place_of isa word = option_and_then (no_less_than (origin_of isa)) (result_ok (hex_number word (last_of isa)))
+abbrev pub place_of : Isa → Word → Option Place
+place_of isa word =
+    option_map (λ address. record { isa = isa; address = address })
+    (option_and_then (no_less_than (origin_of isa)) (result_ok (hex_number word (last_of isa))))
 
 -- a name of an address has from 1 to 32 characters
 abbrev pub name_of : Word → Option Entry
@@ -136,11 +142,11 @@ columns_by given = record { time = given.has flag.At; words = given.has flag.Wor
 
 -- FILE CYCLES, where the file is a game, a saved state or a program
 abbrev pub trace_by : List Word → Given → Option Asked
-trace_by (file ∷ cycles ∷ []) given = either_by file cycles given (show.Trace (columns_by given)) program.Trace
+trace_by (file ∷ cycles ∷ []) given = either_by file cycles given (show.Plain (Trace (columns_by given))) program.Trace
 trace_by _ given = None
 
 abbrev pub play_by : List Word → Given → Option Asked
-play_by (file ∷ cycles ∷ []) given = either_by file cycles given show.Pictures program.Pictures
+play_by (file ∷ cycles ∷ []) given = either_by file cycles given (show.Plain Pictures) program.Pictures
 play_by _ given = None
 
 -- FILE CYCLES COMMANDS
@@ -158,7 +164,7 @@ shown_by shown _ given = None
 abbrev pub resume_by : List Word → Given → Option Asked
 resume_by (file ∷ cycles ∷ []) given =
     option_map
-    (λ n. request.Run (record { start = start.State file; keys = given.keys; limit = n; show = show.Trace (record plain { time = given.has flag.At }) }))
+    (λ n. request.Run (record { start = start.State file; keys = given.keys; limit = n; show = show.Plain (Trace (record plain { time = given.has flag.At })) }))
     (cycles_of cycles)
 resume_by _ given = None
 
@@ -166,7 +172,7 @@ resume_by _ given = None
 abbrev pub demo_by : List Word → Option Asked
 demo_by (number ∷ cycles ∷ []) =
     option_and_then
-    (λ n. option_map (λ c. request.Run (record { start = start.Demo n; keys = None; limit = c; show = show.Summary n })) (cycles_of cycles))
+    (λ n. option_map (λ c. request.Run (record { start = start.Demo n; keys = None; limit = c; show = show.Plain (Summary n) })) (cycles_of cycles))
     (seed_of number)
 demo_by _ = None
 
@@ -182,7 +188,7 @@ file_by _ = None
 
 -- FILE AT
 abbrev pub dis_by : Isa → List Word → Option Asked
-dis_by isa (file ∷ at ∷ []) = option_map (λ a. request.Dis file isa a) (place_of isa at)
+dis_by isa (file ∷ at ∷ []) = option_map (λ place. request.Text (text.Dis place) file) (place_of isa at)
 dis_by isa _ = None
 
 -- The source of an edition's interpreter, or of one program of two joined boards, which have no editions.
@@ -194,12 +200,12 @@ built_in_by given =
 
 -- none
 abbrev pub source_by : List Word → Given → Option Asked
-source_by [] given = option_map request.Source (built_in_by given)
+source_by [] given = option_map (λ source. request.Own (own.Source source)) (built_in_by given)
 source_by _ given = None
 
 -- none
 abbrev pub bounds_by : List Word → Option Asked
-bounds_by [] = Some request.Bounds
+bounds_by [] = Some (request.Own own.Bounds)
 bounds_by _ = None
 
 -- FILE CERT
@@ -209,7 +215,7 @@ within_by _ given = None
 
 -- FILE ENTRY P K, where the program counter and the counter are two registers
 abbrev pub two_registers : Word → Entry → ℕ → ℕ → Option Asked
-two_registers file entry p k = if p == k then None else Some (request.Timing file entry p k)
+two_registers file entry p k = if p == k then None else Some (request.Text (text.Timing entry p k) file)
 
 abbrev pub timing_by : List Word → Option Asked
 timing_by (file ∷ entry ∷ p ∷ k ∷ []) =
@@ -223,17 +229,17 @@ safe_by _ given = None
 
 -- FILE, whose name is in the text that is written
 abbrev pub check_by : Isa → List Word → Option Asked
-check_by isa words = option_map (λ file. request.Check file file isa) (file_by words)
+check_by isa words = option_map (λ file. request.Text (text.Check file isa) file) (file_by words)
 
 -- none, or a verb
 abbrev pub help_by : List Word → Option Asked
-help_by [] = Some (request.Help None)
-help_by (word ∷ []) = option_map (λ v. request.Help (Some v)) (verb_of word)
+help_by [] = Some (request.Own (own.Help None))
+help_by (word ∷ []) = option_map (λ v. request.Own (own.Help (Some v))) (verb_of word)
 help_by _ = None
 
 -- none
 abbrev pub version_by : List Word → Option Asked
-version_by [] = Some request.Version
+version_by [] = Some (request.Own own.Version)
 version_by _ = None
 
 -- what a verb asks for, where its words give this
@@ -241,14 +247,14 @@ abbrev pub asked_of_verb : Verb → Given → Option Asked
 asked_of_verb verb.Trace given = trace_by given.positional given
 asked_of_verb verb.Play given = play_by given.positional given
 asked_of_verb verb.Debug given = debug_by given.positional given
-asked_of_verb verb.Save given = shown_by show.State given.positional given
-asked_of_verb verb.Profile given = shown_by show.Profile given.positional given
+asked_of_verb verb.Save given = shown_by (show.Plain State) given.positional given
+asked_of_verb verb.Profile given = shown_by (show.Plain Profile) given.positional given
 asked_of_verb verb.Resume given = resume_by given.positional given
 asked_of_verb verb.Demo given = demo_by given.positional
 asked_of_verb verb.Link given = link_by given.positional
-asked_of_verb verb.Asm given = option_map (λ file. request.Asm file (isa_by (given.has flag.Chip8)) (given.has flag.Raw)) (file_by given.positional)
+asked_of_verb verb.Asm given = option_map (λ file. request.Text (text.Asm (isa_by (given.has flag.Chip8)) (given.has flag.Raw)) file) (file_by given.positional)
 asked_of_verb verb.Check given = check_by (isa_by (given.has flag.Chip8)) given.positional
-asked_of_verb verb.List given = option_map (λ file. request.List file (isa_by (given.has flag.Chip8))) (file_by given.positional)
+asked_of_verb verb.List given = option_map (λ file. request.Text (text.List (isa_by (given.has flag.Chip8))) file) (file_by given.positional)
 asked_of_verb verb.Dis given = dis_by (isa_by (given.has flag.Chip8)) given.positional
 asked_of_verb verb.Source given = source_by given.positional given
 asked_of_verb verb.Bounds given = bounds_by given.positional

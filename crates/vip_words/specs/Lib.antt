@@ -2,6 +2,7 @@ pub mod Asked
 pub mod Arguments
 pub mod Command
 pub mod Given
+pub mod Numbers
 pub mod Request
 pub mod Rules
 pub mod Table

@@ -1,8 +1,6 @@
 -- A request with files of any kind: their names, as the words give them, or what they hold.
 use Rattle.std.specs.Borrow.{Bor}
-use Rattle.std.specs.Prelude.{◌≤◌, ℕ, option_map}
-use Rattle.asm_lex.specs.Ranges.{last_of, origin_of}
-pub use Rattle.vip_byte.specs.Number.{most_cycles}
+use Rattle.std.specs.Prelude.{option_map}
 use Rattle.vip_words.specs.Rules.{Word}
 use Rattle.vip_words.specs.declared.request.Code.{Code}
 use Rattle.vip_words.specs.declared.request.Code.TheVariants as code
@@ -10,7 +8,7 @@ use Rattle.vip_words.specs.declared.request.ProgramRequest.{ProgramRequest}
 use Rattle.vip_words.specs.declared.request.ProgramShow.{ProgramShow}
 use Rattle.vip_words.specs.declared.request.ProgramShow.TheVariants as program
 use Rattle.vip_words.specs.declared.request.Request.{Request}
-use Rattle.vip_words.specs.declared.request.Request.TheVariants.{Run, Program, Link, Asm, Check, List, Dis, Source, Bounds, Cycles, Timing, Safe, Certify, Help, Version}
+use Rattle.vip_words.specs.declared.request.Request.TheVariants.{Run, Program, Link, Text, Cycles, Safe, Certify, Own}
 use Rattle.vip_words.specs.declared.request.RunRequest.{RunRequest}
 use Rattle.vip_words.specs.declared.request.Show.{Show}
 use Rattle.vip_words.specs.declared.request.Show.TheVariants as show
@@ -30,12 +28,8 @@ module _ {A B : Type 0} (f : A → B) where
   map_start (start.Demo number) = start.Demo number
 
   abbrev pub map_show : Show A → Show B
-  map_show (show.Trace columns) = show.Trace columns
-  map_show show.Pictures = show.Pictures
   map_show (show.Commands file echo) = show.Commands (f file) echo
-  map_show show.State = show.State
-  map_show show.Profile = show.Profile
-  map_show (show.Summary number) = show.Summary number
+  map_show (show.Plain shown) = show.Plain shown
 
   abbrev pub map_run : RunRequest A → RunRequest B
   map_run run = record { start = map_start run.start; keys = option_map f run.keys; limit = run.limit; show = map_show run.show }
@@ -53,18 +47,11 @@ module _ {A B : Type 0} (f : A → B) where
   map_request (Run run) = Run (map_run run)
   map_request (Program run) = Program (map_program run)
   map_request (Link message moves number) = Link (f message) moves number
-  map_request (Asm file isa raw) = Asm (f file) isa raw
-  map_request (Check file name isa) = Check (f file) name isa
-  map_request (List file isa) = List (f file) isa
-  map_request (Dis file isa address) = Dis (f file) isa address
-  map_request (Source text) = Source text
-  map_request Bounds = Bounds
+  map_request (Text verb file) = Text verb (f file)
   map_request (Cycles file certificate exits) = Cycles (f file) (f certificate) exits
-  map_request (Timing file entry p k) = Timing (f file) entry p k
   map_request (Safe game certificate edition) = Safe (map_code game) (f certificate) edition
   map_request (Certify game edition) = Certify (map_code game) edition
-  map_request (Help verb) = Help verb
-  map_request Version = Version
+  map_request (Own text) = Own text
 
 -- what is asked for: each file by its name
 abbrev pub Asked : Type 0
@@ -84,32 +71,3 @@ program_show_of = map_program_show (λ name. name.now)
 
 abbrev pub asked_of : Request (Bor Word) → Asked
 asked_of = map_request (λ name. name.now)
-
--- ---- numbers
-
-module _ {N : Type 0} where
-  -- the machine cycles that are asked for
-  abbrev pub cycles_in : Request N → ℕ
-  cycles_in (Run run) = run.limit
-  cycles_in (Program run) = run.limit
-  cycles_in _ = 0
-
-  -- the moves of joined boards that are asked for
-  abbrev pub moves_in : Request N → ℕ
-  moves_in (Link message moves number) = moves
-  moves_in _ = 0
-
-  -- bytes to disassemble begin at an address of their instruction set's programs
-  abbrev pub HasStart : Request N → Type 0
-  HasStart (Dis bytes isa address) = (origin_of isa ≤ address) × (address ≤ last_of isa)
-  HasStart _ = Unit {0}
-
--- the most moves of joined boards
-abbrev pub most_moves : ℕ
-most_moves = 10_000_000
-
--- so many machine cycles and moves, and such an address, may be asked for
-pub record InRange {N : Type 0} (request : Request N) : Type 0 where
-  pub cycles : cycles_in request ≤ most_cycles
-  pub moves : moves_in request ≤ most_moves
-  pub start : HasStart request

@@ -1,10 +1,10 @@
 //! What a user asks for: the words of the command line, and the commands of the debugger, read exactly. The crate stands on the kit's `clap`, whose contracts
 //! say which words a simple command takes and what it finds in them, on `vip_byte` for numbers and lines, on `vip_keypad` for the remarks that commands share
-//! with key scripts, on `chip8_lang` for the name of an edition, on `vip_text` for what a trace shows besides the states, and on `asm_lex` for the name of an
-//! instruction set and its addresses; it reads no file and knows no board. The layer above may rely on `read_words`: it answers exactly the request that the
-//! rules of `specs/Rules.antt`, `specs/Table.antt` and `specs/Asked.antt` read in the words, and refuses exactly the words in which they read none. It may rely
-//! on `read_commands`: its answer is the list of the commands that a text says, in order, or its first fault, exactly as `specs/DebugGrammar.antt` says. Want
-//! of memory is the one other answer of each. The rules are this project's profile (`docs/COMMANDS.md`).
+//! with key scripts, on `chip8_lang` for the name of an edition, on `vip_text` for the limit of a run and what a trace shows besides the states, and on
+//! `asm_lex` for the name of an instruction set and its addresses; it reads no file and knows no board. The layer above may rely on `read_words`: it answers
+//! exactly the request that the rules of `specs/Rules.antt`, `specs/Table.antt` and `specs/Asked.antt` read in the words, and refuses exactly the words in
+//! which they read none. It may rely on `read_commands`: its answer is the list of the commands that a text says, in order, or its first fault, exactly as
+//! `specs/DebugGrammar.antt` says. Want of memory is the one other answer of each. The rules are this project's profile (`docs/COMMANDS.md`).
 //!
 //! ```text
 //!     words ──▶ the verb's usage ──▶ each word is plain or an option of it ──▶ clap ──▶ its numbers ──▶ Request
@@ -19,10 +19,10 @@
 //! | options stand anywhere after the verb, each at most once | `clap` |
 //! | the other words are the positional ones, in order, and as many as the verb takes, or none behind a verb that may stand alone | `clap` |
 //! | behind `help` stands no word, or a verb, spelled exactly | `src/request.rt` |
-//! | a number of cycles is decimal and at most 4,000,000,000 | `vip_byte` |
+//! | a number of cycles is decimal and at most 4,000,000,000 | `vip_text` |
 //! | the number of a demonstration game, or of a schedule of joined boards, is decimal and at most 4,294,967,295 | `vip_byte` |
-//! | a number of moves of joined boards is decimal and at most 10,000,000 | `vip_byte` |
-//! | an address is hexadecimal and at most FFFF, with `--chip8` from 200 to FFF | `vip_byte`, `src/request.rt` |
+//! | a number of moves of joined boards is decimal and at most 10,000,000 | `src/moves.rt` |
+//! | an address is hexadecimal and at most FFFF, with `--chip8` from 200 to FFF | `src/place.rt` |
 //! | where a routine is entered is an address of one to four hexadecimal digits, and else a name of at most 32 bytes, always behind `:` | `src/request.rt` |
 //! | the program counter and the counter of a routine are two registers, each one hexadecimal digit | `src/request.rt` |
 //! | a program has one of `--rom` and `--ram`, and none of `--tall`, `--state`, `--screen`, `--words` and `--at` | `src/request.rt` |
@@ -41,6 +41,8 @@ mod debug_commands;
 mod debug_line;
 mod flag;
 mod given;
+mod moves;
+mod place;
 mod request;
 mod table;
 
@@ -49,8 +51,10 @@ pub use debug_commands::{
     SpokenCommand, Telling, read_commands,
 };
 pub use given::WordsFail;
+pub use moves::Moves;
+pub use place::Place;
 pub use request::{
-    BuiltIn, Code, Entry, EntryName, FileName, Memory, ProgramRequest, ProgramShow, Request,
-    RunRequest, Show, Start, read_words,
+    BuiltIn, Code, Entry, EntryName, FileName, Memory, OwnText, PlainShow, ProgramRequest,
+    ProgramShow, Request, RunRequest, Show, Start, TextVerb, read_words,
 };
 pub use table::{Row, VERBS, Verb, about, with_value};

@@ -1,21 +1,23 @@
 //! What the words of a command line ask for.
 
 ghost use Rattle.std.specs.Prelude.{◌≡◌, IfOk, IsErrOf, None, Some, map, option_map, string_bytes};
-ghost use Rattle.vip_words.specs.Asked.{address_or, asked_by, asked_of_verb, built_in_by, code_by, columns_by, cycles_of, edition_by, either_by, entry_of, is_mixed, is_program, isa_by, moves_of, name_of, number_of, place_of, program_by, register_of, run_by, seed_of, start_by};
+ghost use Rattle.vip_words.specs.Asked.{address_or, asked_by, asked_of_verb, built_in_by, code_by, columns_by, edition_by, either_by, entry_of, is_mixed, is_program, isa_by, name_of, number_of, program_by, register_of, run_by, seed_of, start_by};
 ghost use Rattle.vip_words.specs.Given.{seen_given};
-ghost use Rattle.vip_words.specs.Request.{asked_of, code_of, program_show_of, show_of, start_of, InRange};
+ghost use Rattle.vip_words.specs.Request.{asked_of, code_of, program_show_of, show_of, start_of};
 ghost use Rattle.vip_words.specs.declared.table.Verb.TheVariants as verb;
 
 use crate::flag::Flag;
 use crate::given::{Given, Positional, WordsFail, read_given};
+use crate::moves::Moves;
+use crate::place::Place;
 use crate::table::Verb;
 use arrayvec::ArrayVec;
 use asm_lex::Isa;
 use chip8_lang::Edition;
 use std::alloc::{AllocError, Global};
 use std::marker::Model;
-use vip_byte::{MOST_CYCLE, read_decimal, read_hex};
-use vip_text::{PLAIN, TraceColumns};
+use vip_byte::{read_decimal, read_hex};
+use vip_text::{Limit, PLAIN, TraceColumns};
 
 /// What the words of a command line ask for. A file is an `N`: its name, which is the word itself, or, once it was read, its content.
 #[derive(Drop)]
@@ -28,53 +30,22 @@ pub enum Request<N> {
     Link {
         /// What one board sends to the other.
         message: N,
-        /// How many moves the two boards make, from 0 to 10,000,000.
-        moves: u32,
+        /// How many moves the two boards make.
+        moves: Moves,
         /// The number of the schedule, which says whose move each is.
         number: u32,
     },
-    /// Assemble a source: the bytes themselves where `raw` is asked for, and else their dump.
-    Asm {
-        source: N,
-        isa: Isa,
-        raw: bool,
+    /// A text that is made of one file.
+    Text {
+        verb: TextVerb,
+        file: N,
     },
-    /// Tell every fault of a source, by the name of its file.
-    Check {
-        source: N,
-        name: FileName,
-        isa: Isa,
-    },
-    /// List a source with its bytes.
-    List {
-        source: N,
-        isa: Isa,
-    },
-    /// Disassemble the bytes of a file from an address on, which is one of the instruction set's programs.
-    Dis {
-        bytes: N,
-        isa: Isa,
-        address: u16,
-    },
-    /// A source that the program has in it.
-    Source(BuiltIn),
-    /// The table of the bounds of each step.
-    Bounds,
     /// Check a certificate that a routine of a source leaves within its machine cycles.
     Cycles {
         source: N,
         certificate: N,
         /// Whether its exits are asked for.
         exits: bool,
-    },
-    /// Search for a certificate of a routine of a source.
-    Timing {
-        source: N,
-        entry: Entry,
-        /// The number of the register that is the program counter.
-        p: u8,
-        /// The number of the counter register.
-        k: u8,
     },
     /// Check a certificate that an edition's game never stops.
     Safe {
@@ -87,6 +58,48 @@ pub enum Request<N> {
         game: Code<N>,
         edition: Edition,
     },
+    /// A text of the program's own, for which no file is read.
+    Own(OwnText),
+}
+
+/// What text is made of a file.
+#[derive(Drop)]
+pub enum TextVerb {
+    /// Assemble a source: the bytes themselves where `raw` is asked for, and else their dump.
+    Asm {
+        isa: Isa,
+        raw: bool,
+    },
+    /// Tell every fault of a source, by the name of its file.
+    Check {
+        name: FileName,
+        isa: Isa,
+    },
+    /// List a source with its bytes.
+    List {
+        isa: Isa,
+    },
+    /// Disassemble bytes from an address on.
+    Dis {
+        place: Place,
+    },
+    /// Search for a certificate of a routine of a source.
+    Timing {
+        entry: Entry,
+        /// The number of the register that is the program counter.
+        p: u8,
+        /// The number of the counter register.
+        k: u8,
+    },
+}
+
+/// A text of the program's own.
+#[derive(Clone, Copy)]
+pub enum OwnText {
+    /// A source that the program has in it.
+    Source(BuiltIn),
+    /// The table of the bounds of each step.
+    Bounds,
     /// All verbs, or one of them with its options.
     Help(Option<Verb>),
     /// The name and the version of the program.
@@ -139,8 +152,8 @@ pub struct RunRequest<N> {
     pub start: Start<N>,
     /// The key script, where there is one.
     pub keys: Option<N>,
-    /// How many machine cycles at most, counted from reset, from 0 to 4,000,000,000.
-    pub limit: u64,
+    /// Up to which machine cycle, counted from reset.
+    pub limit: Limit,
     pub show: Show<N>,
 }
 
@@ -158,12 +171,19 @@ pub enum Start<N> {
 /// What is shown of a run of the language.
 #[derive(Drop)]
 pub enum Show<N> {
+    /// The answers to the debugger's commands; and whether each command stands before its answer.
+    Commands { file: N, echo: bool },
+    /// What needs no commands.
+    Plain(PlainShow),
+}
+
+/// What is shown of a run of the language without the debugger.
+#[derive(Clone, Copy)]
+pub enum PlainShow {
     /// A line for each dispatch point behind the start, and what is asked for besides.
     Trace(TraceColumns),
     /// Each finished picture.
     Pictures,
-    /// The answers to the debugger's commands; and whether each command stands before its answer.
-    Commands { file: N, echo: bool },
     /// The last dispatch point, as a state file.
     State,
     /// Where its time goes, by its dispatch points.
@@ -180,8 +200,8 @@ pub struct ProgramRequest<N> {
     pub memory: Memory,
     /// The key script, where there is one.
     pub keys: Option<N>,
-    /// How many machine cycles at most, from 0 to 4,000,000,000.
-    pub limit: u64,
+    /// Up to which machine cycle.
+    pub limit: Limit,
     pub show: ProgramShow<N>,
 }
 
@@ -230,43 +250,12 @@ pub enum BuiltIn {
     Receiver,
 }
 
-fn read_cycles(word: &str) -> Option<u64>
-    ensures { result ≡ cycles_of word.now }
-{
-    read_decimal(word.as_bytes(), MOST_CYCLE).ok()
-}
-
-/// The most moves of joined boards.
-const MOST_MOVES: u64 = 10_000_000;
-
-fn read_moves(word: &str) -> Option<u32>
-    ensures { result ≡ moves_of word.now }
-{
-    let moves = read_decimal(word.as_bytes(), MOST_MOVES).ok()?;
-    Some(moves as u32)
-}
-
 /// The number of a demonstration game or of a schedule.
 fn read_seed(word: &str) -> Option<u32>
     ensures { result ≡ seed_of word.now }
 {
     let number = read_decimal(word.as_bytes(), u32::MAX as u64).ok()?;
     Some(number as u32)
-}
-
-/// An address of an instruction set's programs.
-fn read_place(isa: Isa, word: &str) -> Option<u16>
-    ensures { result ≡ place_of isa word.now }
-{
-    let (least, most) = match isa {
-        Isa::Cdp1802 => (0x0000, 0xFFFF),
-        Isa::Chip8 => (0x0200, 0x0FFF),
-    };
-    let address = read_hex(word.as_bytes(), most).ok()?;
-    if address < least {
-        return None;
-    }
-    Some(address as u16)
 }
 
 /// The name of an address.
@@ -378,7 +367,7 @@ fn run_request<'a>(
     ensures { option_map asked_of result ≡ run_by file.entry.now cycles.now (seen_given given.now) (show_of show.entry) }
 {
     let start = read_start(file, given)?;
-    let limit = read_cycles(cycles)?;
+    let limit = Limit::read(cycles.as_bytes())?;
     Some(Request::Run(RunRequest {
         start,
         keys: given.keys,
@@ -417,7 +406,7 @@ fn program_request<'a>(
     if is_mixed(given) {
         return None;
     }
-    let limit = read_cycles(cycles)?;
+    let limit = Limit::read(cycles.as_bytes())?;
     let memory = if given.has(Flag::Rom) {
         Memory::Rom
     } else {
@@ -467,7 +456,7 @@ fn trace_request<'a>(given: &Given<'a>) -> Option<Request<&'a str>>
     let Positional::Two(file, cycles) = given.positional else {
         return None;
     };
-    let show = Show::Trace(columns_by(given));
+    let show = Show::Plain(PlainShow::Trace(columns_by(given)));
     either_request(file, cycles, given, show, ProgramShow::Trace)
 }
 
@@ -477,7 +466,8 @@ fn play_request<'a>(given: &Given<'a>) -> Option<Request<&'a str>>
     let Positional::Two(file, cycles) = given.positional else {
         return None;
     };
-    either_request(file, cycles, given, Show::Pictures, ProgramShow::Pictures)
+    let show = Show::Plain(PlainShow::Pictures);
+    either_request(file, cycles, given, show, ProgramShow::Pictures)
 }
 
 fn debug_request<'a>(given: &Given<'a>) -> Option<Request<&'a str>>
@@ -504,7 +494,7 @@ fn save_request<'a>(given: &Given<'a>) -> Option<Request<&'a str>>
     let Positional::Two(file, cycles) = given.positional else {
         return None;
     };
-    run_request(file, cycles, given, Show::State)
+    run_request(file, cycles, given, Show::Plain(PlainShow::State))
 }
 
 fn profile_request<'a>(given: &Given<'a>) -> Option<Request<&'a str>>
@@ -513,7 +503,7 @@ fn profile_request<'a>(given: &Given<'a>) -> Option<Request<&'a str>>
     let Positional::Two(file, cycles) = given.positional else {
         return None;
     };
-    run_request(file, cycles, given, Show::Profile)
+    run_request(file, cycles, given, Show::Plain(PlainShow::Profile))
 }
 
 /// The trace of a run from a saved state.
@@ -523,15 +513,15 @@ fn resume_request<'a>(given: &Given<'a>) -> Option<Request<&'a str>>
     let Positional::Two(state, cycles) = given.positional else {
         return None;
     };
-    let limit = read_cycles(cycles)?;
+    let limit = Limit::read(cycles.as_bytes())?;
     Some(Request::Run(RunRequest {
         start: Start::State(state),
         keys: given.keys,
         limit,
-        show: Show::Trace(TraceColumns {
+        show: Show::Plain(PlainShow::Trace(TraceColumns {
             time: given.has(Flag::At),
             ..PLAIN
-        }),
+        })),
     }))
 }
 
@@ -542,12 +532,12 @@ fn demo_request<'a>(given: &Given<'a>) -> Option<Request<&'a str>>
         return None;
     };
     let number = read_seed(number)?;
-    let limit = read_cycles(cycles)?;
+    let limit = Limit::read(cycles.as_bytes())?;
     Some(Request::Run(RunRequest {
         start: Start::Demo(number),
         keys: None,
         limit,
-        show: Show::Summary(number),
+        show: Show::Plain(PlainShow::Summary(number)),
     }))
 }
 
@@ -557,7 +547,7 @@ fn link_request<'a>(given: &Given<'a>) -> Option<Request<&'a str>>
     let Positional::Three(message, moves, number) = given.positional else {
         return None;
     };
-    let moves = read_moves(moves)?;
+    let moves = Moves::read(moves.as_bytes())?;
     let number = read_seed(number)?;
     Some(Request::Link {
         message,
@@ -570,10 +560,12 @@ fn asm_request<'a>(given: &Given<'a>) -> Option<Request<&'a str>>
     ensures { option_map asked_of result ≡ asked_of_verb verb.Asm (seen_given given.now) }
 {
     match given.positional {
-        Positional::One(source) => Some(Request::Asm {
-            source,
-            isa: isa_by(given.has(Flag::Chip8)),
-            raw: given.has(Flag::Raw),
+        Positional::One(file) => Some(Request::Text {
+            verb: TextVerb::Asm {
+                isa: isa_by(given.has(Flag::Chip8)),
+                raw: given.has(Flag::Raw),
+            },
+            file,
         }),
         _ => None,
     }
@@ -586,14 +578,14 @@ fn check_request<'a>(
 ) -> Result<Option<Request<&'a str>>, AllocError>
     ensures { IfOk result (λ request. option_map asked_of request ≡ asked_of_verb verb.Check (seen_given given.now)) }
 {
-    let Positional::One(source) = given.positional else {
+    let Positional::One(file) = given.positional else {
         return Ok(None);
     };
-    let name = FileName::of(alloc, source)?;
-    Ok(Some(Request::Check {
-        source,
-        name,
-        isa: isa_by(given.has(Flag::Chip8)),
+    let name = FileName::of(alloc, file)?;
+    let isa = isa_by(given.has(Flag::Chip8));
+    Ok(Some(Request::Text {
+        verb: TextVerb::Check { name, isa },
+        file,
     }))
 }
 
@@ -601,9 +593,11 @@ fn list_request<'a>(given: &Given<'a>) -> Option<Request<&'a str>>
     ensures { option_map asked_of result ≡ asked_of_verb verb.List (seen_given given.now) }
 {
     match given.positional {
-        Positional::One(source) => Some(Request::List {
-            source,
-            isa: isa_by(given.has(Flag::Chip8)),
+        Positional::One(file) => Some(Request::Text {
+            verb: TextVerb::List {
+                isa: isa_by(given.has(Flag::Chip8)),
+            },
+            file,
         }),
         _ => None,
     }
@@ -612,15 +606,14 @@ fn list_request<'a>(given: &Given<'a>) -> Option<Request<&'a str>>
 fn dis_request<'a>(given: &Given<'a>) -> Option<Request<&'a str>>
     ensures { option_map asked_of result ≡ asked_of_verb verb.Dis (seen_given given.now) }
 {
-    let Positional::Two(bytes, address) = given.positional else {
+    let Positional::Two(file, address) = given.positional else {
         return None;
     };
     let isa = isa_by(given.has(Flag::Chip8));
-    let address = read_place(isa, address)?;
-    Some(Request::Dis {
-        bytes,
-        isa,
-        address,
+    let place = Place::read(isa, address.as_bytes())?;
+    Some(Request::Text {
+        verb: TextVerb::Dis { place },
+        file,
     })
 }
 
@@ -649,7 +642,7 @@ fn source_request<'a>(given: &Given<'a>) -> Option<Request<&'a str>>
     ensures { option_map asked_of result ≡ asked_of_verb verb.Source (seen_given given.now) }
 {
     match given.positional {
-        Positional::Empty => Some(Request::Source(built_in_by(given)?)),
+        Positional::Empty => Some(Request::Own(OwnText::Source(built_in_by(given)?))),
         _ => None,
     }
 }
@@ -658,7 +651,7 @@ fn bounds_request<'a>(given: &Given<'a>) -> Option<Request<&'a str>>
     ensures { option_map asked_of result ≡ asked_of_verb verb.Bounds (seen_given given.now) }
 {
     match given.positional {
-        Positional::Empty => Some(Request::Bounds),
+        Positional::Empty => Some(Request::Own(OwnText::Bounds)),
         _ => None,
     }
 }
@@ -679,7 +672,7 @@ fn cycles_request<'a>(given: &Given<'a>) -> Option<Request<&'a str>>
 fn timing_request<'a>(given: &Given<'a>) -> Option<Request<&'a str>>
     ensures { option_map asked_of result ≡ asked_of_verb verb.Timing (seen_given given.now) }
 {
-    let Positional::Four(source, entry, p, k) = given.positional else {
+    let Positional::Four(file, entry, p, k) = given.positional else {
         return None;
     };
     let entry = read_entry(entry.as_bytes())?;
@@ -688,11 +681,9 @@ fn timing_request<'a>(given: &Given<'a>) -> Option<Request<&'a str>>
     if p == k {
         return None;
     }
-    Some(Request::Timing {
-        source,
-        entry,
-        p,
-        k,
+    Some(Request::Text {
+        verb: TextVerb::Timing { entry, p, k },
+        file,
     })
 }
 
@@ -725,10 +716,10 @@ fn help_request<'a>(given: &Given<'a>) -> Option<Request<&'a str>>
     ensures { option_map asked_of result ≡ asked_of_verb verb.Help (seen_given given.now) }
 {
     match given.positional {
-        Positional::Empty => Some(Request::Help(None)),
+        Positional::Empty => Some(Request::Own(OwnText::Help(None))),
         Positional::One(word) => {
             let verb = Verb::of(word)?;
-            Some(Request::Help(Some(verb)))
+            Some(Request::Own(OwnText::Help(Some(verb))))
         }
         _ => None,
     }
@@ -738,7 +729,7 @@ fn version_request<'a>(given: &Given<'a>) -> Option<Request<&'a str>>
     ensures { option_map asked_of result ≡ asked_of_verb verb.Version (seen_given given.now) }
 {
     match given.positional {
-        Positional::Empty => Some(Request::Version),
+        Positional::Empty => Some(Request::Own(OwnText::Version)),
         _ => None,
     }
 }
@@ -780,7 +771,6 @@ fn request_of<'a>(
 /// `Refused` comes exactly where they read none. Where there was no memory, nothing is known of the words.
 pub fn read_words<'a>(alloc: Global, words: &'a [String]) -> Result<Request<&'a str>, WordsFail>
     ensures ok { IfOk result (λ request. asked_by (map string_bytes words.entry.now) ≡ Some (asked_of request)) }
-    ensures range { IfOk result (λ request. InRange (asked_of request)) }
     ensures refused { IsErrOf result WordsFail.Refused → asked_by (map string_bytes words.entry.now) ≡ None }
 {
     let Some(word) = words.first() else {

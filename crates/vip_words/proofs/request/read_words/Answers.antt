@@ -6,7 +6,6 @@ use Rattle.vip_words.specs.Rules.{Word}
 use Rattle.vip_words.specs.declared.given.WordsFail.TheVariants.{Refused}
 use Rattle.vip_words.specs.declared.request.Request.{Request}
 use Rattle.vip_words.proofs.Asked.{asked_after, read_is_asked, refused_is_not_asked}
-use Rattle.vip_words.proofs.Ranges.{read-low}
 use Rattle.vip_words.proofs.request.read_words.Goals as goal
 
 pub returns-in-Err-clause-refused : goal.returns-in-Err-clause-refused
@@ -23,10 +22,6 @@ returns-in-Ok-request_of-clause-ok c =
     c.in-Some.ensures.value c.as_str.ensures.value c.in-Some-of.ensures c.row.ensures c.usage-usage.ensures.places c.usage-usage.ensures.options
     c.in-Ok.ensures.ok
     ∙ sym c.in-Ok-request_of.ensures))
-
-pub returns-in-Ok-request_of-clause-range : goal.returns-in-Ok-request_of-clause-range
-returns-in-Ok-request_of-clause-range c =
-    rw c.ok_or.ensures.value (read-low c.in-Some-of.verb (seen_given c.in-Ok.given) c.in-Ok-request_of.request c.in-Ok-request_of.ensures)
 
 pub returns-in-Ok-request_of-clause-refused : goal.returns-in-Ok-request_of-clause-refused
 returns-in-Ok-request_of-clause-refused c =
