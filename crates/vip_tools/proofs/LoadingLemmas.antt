@@ -1,21 +1,19 @@
 -- The parts of a request, read one after another.
-use Rattle.std.proofs.Common.{Global, ◌≡◌, ◌∙◌, ap, ℕ, List, [], ◌∷◌, ◌++◌, refl, Option, Some, Ok, Err, Vec}
+use Rattle.std.proofs.Common.{Global, ◌≡◌, ℕ, List, [], ◌∷◌, ◌++◌, refl, Option, Ok, Err, Vec}
 use Rattle.vip_outside.specs.Files.{FilesMeaning}
-use Rattle.vip_words.specs.Request.{Asked, map_code}
+use Rattle.vip_words.specs.Request.{map_code}
 use Rattle.vip_words.specs.Rules.{Word}
 use Rattle.vip_words.specs.declared.request.Code.{Code}
 use Rattle.vip_words.specs.declared.request.Code.TheVariants.{Bytes, Source}
 use Rattle.vip_words.specs.declared.request.ProgramRequest.{ProgramRequest}
 use Rattle.vip_words.specs.declared.request.ProgramShow.{ProgramShow}
-use Rattle.vip_words.specs.declared.request.Request.{Request}
-use Rattle.vip_words.specs.declared.request.Request.TheVariants as request
 use Rattle.vip_words.specs.declared.request.RunRequest.{RunRequest}
 use Rattle.vip_words.specs.declared.request.Show.{Show}
 use Rattle.vip_words.specs.declared.request.Start.{Start}
 use Rattle.vip_tools.specs.declared.refusal.Kind.{Kind}
 use Rattle.vip_tools.specs.declared.refusal.Refusal.{Refusal}
-use Rattle.vip_tools.specs.Files.{FileAnswers, FilesRefused, IsLoaded, Loaded, Loads, Needed, code_file, needed, shape_of, program_code, program_kind, program_show_files, program_size, script_files, show_files, start_files, with_file}
-use Rattle.vip_tools.specs.Loading.{code_shape, only_file, with_held, KeysLoad, PairLoads, ProgramLoads, ProgramShowLoads, RunLoads, ShowLoads, StartLoads}
+use Rattle.vip_tools.specs.Files.{FileAnswers, FilesRefused, Loads, Needed, code_file, program_code, program_kind, program_show_files, program_size, script_files, show_files, start_files, with_file}
+use Rattle.vip_tools.specs.Loading.{code_shape, KeysLoad, PairLoads, ProgramLoads, ProgramShowLoads, RunLoads, ShowLoads, StartLoads}
 use Rattle.vip_tools.proofs.FilesLemmas.{loads-one, loads-then, refused-before, refused-one, refused-then}
 
 -- two files by their names
@@ -118,34 +116,3 @@ module _ (old there : FilesMeaning) (first second : Needed Word) where
       → FileAnswers {Z = Global} there new second (Err refusal) → PairLoads {Z = Global} old new first second (Err refusal)
   pair-second new one refusal read at =
       refused-then _ _ _ _ _ _ refusal (loads-one _ _ first _ refl one read) (refused-one _ _ second _ refl refusal at)
-
--- ---- a request that has one file alone
-
-module _ {N : Type 0} where
-  needed-only : (q : Request N) (n : Needed N) → only_file q ≡ Some n → needed q ≡ n ∷ []
-  needed-only (request.Run run) n is = cc
-  needed-only (request.Program run) n is = cc
-  needed-only (request.Link message moves number) n is = cc
-  needed-only (request.Asm source isa raw) n is = cc
-  needed-only (request.Check source name isa) n is = cc
-  needed-only (request.List source isa) n is = cc
-  needed-only (request.Dis bytes isa address) n is = cc
-  needed-only (request.Source text) n is = cc
-  needed-only request.Bounds n is = cc
-  needed-only (request.Cycles source certificate exits) n is = cc
-  needed-only (request.Timing source entry p k) n is = cc
-  needed-only (request.Safe game certificate edition) n is = cc
-  needed-only (request.Certify game edition) n is = cc
-  needed-only (request.Help verb) n is = cc
-  needed-only request.Version n is = cc
-
-module _ (old new : FilesMeaning) (asked : Asked) (n : Needed Word) (is : only_file asked ≡ Some n) where
-  pub only-refused : (refusal : Refusal) → FileAnswers {Z = Global} old new n (Err refusal) → FilesRefused old new (needed asked) refusal
-  only-refused refusal at = rw (needed-only asked n is) (refused-one old new n n refl refusal at)
-
-  pub only-loaded : (bytes : Vec ℕ Global) → FileAnswers old new n (Ok bytes) → (loaded : Loaded) → shape_of asked ≡ shape_of loaded
-      → only_file loaded ≡ with_held bytes.items (only_file asked) → IsLoaded old new asked loaded
-  only-loaded bytes at loaded shape held = record {
-    shape = shape;
-    loads = rw (needed-only asked n is, needed-only loaded (record n { file = bytes.items }) (held ∙ ap (with_held bytes.items) is)) (loads-one old new n n refl bytes at);
-  }

@@ -5,7 +5,6 @@ use Rattle.vip_outside.specs.Count.{Rose}
 use Rattle.vip_outside.specs.Files.{Answer, FilesMeaning, Read, and_read, and_reads, with_read}
 use Rattle.vip_outside.specs.Files.Answer.{Whole, Start, Lacked, Faulted}
 use Rattle.asm_lex.specs.Ranges.{last_of}
-use Rattle.asm_lex.specs.declared.shape.Isa.{Isa}
 use Rattle.chip8_lang.specs.State.{memory_size}
 use Rattle.chip8_lang.specs.declared.view.Edition.{Edition}
 use Rattle.chip8_lang.specs.declared.view.Edition.TheVariants.{Usual, Tall}
@@ -25,6 +24,8 @@ use Rattle.vip_words.specs.declared.request.Show.{Show}
 use Rattle.vip_words.specs.declared.request.Show.TheVariants as show
 use Rattle.vip_words.specs.declared.request.Start.{Start as Beginning}
 use Rattle.vip_words.specs.declared.request.Start.TheVariants as start
+use Rattle.vip_words.specs.declared.request.TextVerb.{TextVerb}
+use Rattle.vip_words.specs.declared.request.TextVerb.TheVariants.{Dis}
 use Rattle.vip_tools.specs.declared.files.Wanted.{Wanted}
 use Rattle.vip_tools.specs.declared.refusal.Kind.{Kind}
 use Rattle.vip_tools.specs.declared.refusal.Kind.TheVariants.{Game, TallGame, Script, Commands, Source, Certificate, State, Message, Rom, Ram}
@@ -64,6 +65,11 @@ abbrev pub program_size : Memory → ℕ
 program_size memory.Rom = rom_size
 program_size memory.Ram = ram_size
 
+-- the most bytes of the file of which a text is made: bytes to disassemble have to end at the highest address of their instruction set's programs at the latest
+abbrev pub most_of : TextVerb → ℕ
+most_of (Dis place) = last_of place.isa + 1 - place.address
+most_of _ = most_text
+
 module _ {N : Type 0} where
   abbrev pub file : Kind → ℕ → N → Needed N
   file kind most n = record { file = n; most = most; kind = kind }
@@ -83,12 +89,12 @@ module _ {N : Type 0} where
   abbrev pub message_file : N → Needed N
   message_file n = file Message most_message n
 
-  -- a source, bytes to disassemble, which have to end at the highest address of their instruction set's programs at the latest, and a certificate
+  -- a source, that of which a text is made, and a certificate
   abbrev pub source_file : N → Needed N
   source_file n = file Source most_text n
 
-  abbrev pub bytes_file : Isa → ℕ → N → Needed N
-  bytes_file isa address n = file Source (last_of isa + 1 - address) n
+  abbrev pub text_file : TextVerb → N → Needed N
+  text_file verb n = file Source (most_of verb) n
 
   abbrev pub certificate_file : N → Needed N
   certificate_file n = file Certificate most_text n
@@ -129,18 +135,11 @@ module _ {N : Type 0} where
   needed (request.Run run) = start_files run.start ++ (show_files run.show ++ script_files run.keys)
   needed (request.Program run) = program_code run.memory run.code ∷ (program_show_files run.show ++ script_files run.keys)
   needed (request.Link message moves number) = message_file message ∷ []
-  needed (request.Asm source isa raw) = source_file source ∷ []
-  needed (request.Check source name isa) = source_file source ∷ []
-  needed (request.List source isa) = source_file source ∷ []
-  needed (request.Dis bytes isa address) = bytes_file isa address bytes ∷ []
-  needed (request.Source text) = []
-  needed request.Bounds = []
+  needed (request.Text verb file) = text_file verb file ∷ []
   needed (request.Cycles source certificate exits) = source_file source ∷ certificate_file certificate ∷ []
-  needed (request.Timing source entry p k) = source_file source ∷ []
   needed (request.Safe game certificate edition) = game_code edition game ∷ certificate_file certificate ∷ []
   needed (request.Certify game edition) = game_code edition game ∷ []
-  needed (request.Help verb) = []
-  needed request.Version = []
+  needed (request.Own text) = []
 
   abbrev pub files_of : List (Needed N) → List N
   files_of ns = map (λ n. n.file) ns

@@ -54,5 +54,8 @@ HelpComes verb = Writes (help_text verb)
 
 -- ---- the version
 
+abbrev pub version_text : List ℕ
+version_text = codes "vip 1.1-dev" ++ newline
+
 abbrev pub VersionComes : Judged Output
-VersionComes = Writes (codes "vip 1.1-dev" ++ newline)
+VersionComes = Writes version_text

@@ -1,5 +1,5 @@
 -- What the reading of the parts of a request answers.
-use Rattle.std.specs.Prelude.{◌≡◌, ℕ, List, [], ◌∷◌, Option, Some, None, option_map, Result, Vec}
+use Rattle.std.specs.Prelude.{◌≡◌, ℕ, [], ◌∷◌, Option, option_map, Result, Vec}
 use Rattle.vip_outside.specs.Files.{FilesMeaning}
 use Rattle.vip_words.specs.Request.{map_code, map_program, map_program_show, map_run, map_show, map_start}
 use Rattle.vip_words.specs.Rules.{Word}
@@ -7,11 +7,10 @@ use Rattle.vip_words.specs.declared.request.Code.{Code}
 use Rattle.vip_words.specs.declared.request.ProgramRequest.{ProgramRequest}
 use Rattle.vip_words.specs.declared.request.ProgramShow.{ProgramShow}
 use Rattle.vip_words.specs.declared.request.Request.TheVariants as request
-use Rattle.vip_words.specs.declared.request.Request.{Request}
 use Rattle.vip_words.specs.declared.request.RunRequest.{RunRequest}
 use Rattle.vip_words.specs.declared.request.Show.{Show}
 use Rattle.vip_words.specs.declared.request.Start.{Start}
-use Rattle.vip_tools.specs.Files.{Needed, PartAnswers, bytes_file, game_code, message_file, needed, source_file, program_show_files, script_files, show_files, start_files}
+use Rattle.vip_tools.specs.Files.{Needed, PartAnswers, needed, program_show_files, script_files, show_files, start_files}
 use Rattle.vip_tools.specs.declared.refusal.Refusal.{Refusal}
 
 -- a part without its files
@@ -36,21 +35,6 @@ module _ {N : Type 0} where
 
   abbrev pub program_shape : ProgramRequest N → ProgramRequest (Unit {0})
   program_shape = map_program (λ _. tt)
-
--- the file of a request that has one alone, which is no run's
-abbrev pub only_file : {N : Type 0} → Request N → Option (Needed N)
-only_file (request.Link message moves number) = Some (message_file message)
-only_file (request.Asm source isa raw) = Some (source_file source)
-only_file (request.Check source name isa) = Some (source_file source)
-only_file (request.List source isa) = Some (source_file source)
-only_file (request.Dis bytes isa address) = Some (bytes_file isa address bytes)
-only_file (request.Timing source entry p k) = Some (source_file source)
-only_file (request.Certify game edition) = Some (game_code edition game)
-only_file _ = None
-
--- that file with this content
-abbrev pub with_held : List ℕ → Option (Needed Word) → Option (Needed (List ℕ))
-with_held content = option_map (λ (n : Needed Word). record n { file = content })
 
 module _ {Z : Type 0} (old new : FilesMeaning) where
   abbrev pub StartLoads : Start Word → Result (Start (Vec ℕ Z)) Refusal → Type 0

@@ -4,7 +4,7 @@ ghost use Rattle.std.specs.Prelude.{◌≡◌};
 ghost use Rattle.vip_tools.specs.Status.{ended_status};
 
 use crate::status::Status;
-use vip_text::RunEnd;
+use vip_text::{Limit, RunEnd};
 
 /// How a command ended.
 #[derive(Clone, Copy)]
@@ -13,8 +13,8 @@ pub enum Ended {
     Worked,
     /// What was told of a source was written: whether it has a fault.
     Checked { faulty: bool },
-    /// It ran for so many machine cycles at most.
-    Ran(u64, RunEnd),
+    /// It ran up to this limit at most.
+    Ran(Limit, RunEnd),
     /// A program's processor idles at this address, and no signal can wake it.
     Idle(u16),
     /// So many bytes of a message were sent, and so many received.

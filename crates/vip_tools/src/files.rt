@@ -1,9 +1,10 @@
 //! The files that a verb reads, each by its kind, and how one of them is read.
 
-ghost use Rattle.std.specs.Prelude.{◌≡◌, ◌<◌, ◌+◌, ℕ, slice_index};
+ghost use Rattle.std.specs.Prelude.{◌≡◌, ◌<◌, ◌+◌, ◌-◌, ℕ, slice_index};
 ghost use Rattle.asm_lex.specs.Ranges.{last_of};
 ghost use Rattle.vip_words.specs.Request.{code_of};
-ghost use Rattle.vip_tools.specs.Files.{bytes_file, certificate_file, code_file, commands_file, game_code, game_kind, message_file, program_code, script_file, seen_wanted, source_file, state_file, FileAnswers, JudgeAnswers};
+ghost use Rattle.vip_tools.specs.declared.refusal.Kind.TheVariants.{Source};
+ghost use Rattle.vip_tools.specs.Files.{certificate_file, code_file, commands_file, file, game_code, game_kind, message_file, program_code, script_file, seen_wanted, source_file, state_file, text_file, FileAnswers, JudgeAnswers};
 
 use crate::{Kind, Refusal};
 use asm_lex::Isa;
@@ -13,7 +14,7 @@ use vip_byte::MOST_TEXT;
 use vip_outside::{Files, ReadFail};
 use vip_text::StateFault;
 use vip_text::state_file::{SIZE, check_state};
-use vip_words::{Code, Memory};
+use vip_words::{Code, Memory, Place, TextVerb};
 
 /// The most bytes of a message.
 pub const MOST_MESSAGE: usize = 3_000;
@@ -139,13 +140,23 @@ fn end_of(isa: Isa) -> usize
 }
 
 /// Bytes to disassemble, the first of which lies at an address: they have to end at the highest one of the instruction set's programs at the latest.
-pub(crate) fn bytes_file<'a>(isa: Isa, address: u16, name: &'a str) -> Wanted<'a>
-    ensures { seen_wanted result ≡ bytes_file isa address name.now }
+fn bytes_file<'a>(place: Place, name: &'a str) -> Wanted<'a>
+    ensures { seen_wanted result ≡ file Source (last_of place.isa + 1 - place.address) name.now }
 {
     Wanted {
         name,
-        most: end_of(isa).saturating_sub(usize::from(address)),
+        most: end_of(place.isa()).saturating_sub(usize::from(place.address())),
         kind: Kind::Source,
+    }
+}
+
+/// The file of which a text is made.
+pub(crate) fn text_file<'a>(verb: &TextVerb, name: &'a str) -> Wanted<'a>
+    ensures { seen_wanted result ≡ text_file verb.now name.now }
+{
+    match verb {
+        TextVerb::Dis { place } => bytes_file(*place, name),
+        _ => source_file(name),
     }
 }
 

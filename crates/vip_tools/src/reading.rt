@@ -10,6 +10,7 @@ use crate::Refusal;
 use asm_lex::Symbols;
 use std::alloc::Global;
 use vip_keypad::{Script, ScriptFault, read_script};
+use vip_text::Limit;
 use vip_words::{CommandFault, Commands, Speaks, read_commands};
 
 /// The key script of a run, which is empty where no file is given.
@@ -34,12 +35,12 @@ pub fn read_debugging<'a>(
     names: &Symbols,
     echo: bool,
     text: &[u8],
-    limit: u64,
+    limit: Limit,
 ) -> Result<Commands, Refusal<'a>>
     requires { length text.now ≤ most_text }
     ensures { Answers (CommandsCome speaks (number_named (value_in names.now)) echo limit text.now) result }
 {
-    match read_commands(alloc, speaks, names, echo, text, limit) {
+    match read_commands(alloc, speaks, names, echo, text, limit.cycles()) {
         Ok(commands) => Ok(commands),
         Err(CommandFault::Fault { line, cause }) => Err(Refusal::Command { line, cause }),
         Err(CommandFault::NoMemory) => Err(Refusal::NoMemory),

@@ -275,7 +275,7 @@ fn end_text(ended: &Ended, into: &mut Buffer)
 {
     match ended {
         Ended::Worked | Ended::Checked { .. } => {}
-        Ended::Ran(limit, RunEnd::AtLimit) => done_text(*limit, into),
+        Ended::Ran(limit, RunEnd::AtLimit) => done_text(limit.cycles(), into),
         Ended::Ran(_, RunEnd::AtStop(stop)) => stop_text(stop, into),
         Ended::Idle(address) => idle_text(*address, into),
         Ended::Linked { sent, received } => linked_text(*sent, *received, into),

@@ -14,17 +14,5 @@ returns-in_err-file-in-Commands g c =
 pub returns-in_ok-file-in-Commands : goal.returns-in_ok-file-in-Commands
 returns-in_ok-file-in-Commands g c = rw c.in-Commands.is (refl, loads-one _ _ _ _ c.commands_file.ensures c.in_ok-file-in-Commands.file c.in_ok-file-in-Commands.ensures)
 
-pub returns-in-Trace : goal.returns-in-Trace
-returns-in-Trace g c = rw c.in-Trace.is (refl, loads-none _)
-
-pub returns-in-Pictures : goal.returns-in-Pictures
-returns-in-Pictures g c = rw c.in-Pictures.is (refl, loads-none _)
-
-pub returns-in-State : goal.returns-in-State
-returns-in-State g c = rw c.in-State.is (refl, loads-none _)
-
-pub returns-in-Profile : goal.returns-in-Profile
-returns-in-Profile g c = rw c.in-Profile.is (refl, loads-none _)
-
-pub returns-in-Summary : goal.returns-in-Summary
-returns-in-Summary g c = rw c.in-Summary.is (refl, loads-none _)
+pub returns-in-Plain : goal.returns-in-Plain
+returns-in-Plain g c = rw c.in-Plain.is (refl, loads-none _)
