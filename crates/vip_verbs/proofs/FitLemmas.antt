@@ -1,8 +1,5 @@
 -- The files of a request of which all fit.
-use Rattle.std.proofs.Common.{ℕ, List, [], ◌∷◌, ◌++◌, arith}
-use Rattle.asm_lex.specs.declared.shape.Isa.{Isa}
-use Rattle.asm_listing.specs.Disassembly.{HasPlace}
-use Rattle.vip_words.specs.Request.{HasStart}
+use Rattle.std.proofs.Common.{ℕ, List, [], ◌∷◌, ◌++◌}
 use Rattle.vip_words.specs.declared.request.RunRequest.{RunRequest}
 use Rattle.vip_words.specs.declared.request.Request.TheVariants as request
 use Rattle.vip_words.specs.declared.request.ProgramRequest.{ProgramRequest}
@@ -40,8 +37,3 @@ module _ (run : ProgramRequest (List ℕ)) (fit : AreFit (needed (request.Progra
 
   pub program-keys-fit : AreFit (script_files run.keys)
   program-keys-fit = fit-rest (program_show_files run.show) _ fit.1
-
--- bytes to disassemble
-module _ (isa : Isa) (address : ℕ) (bytes : List ℕ) where
-  pub bytes-fit : HasStart {N = List ℕ} (request.Dis bytes isa address) → AreFit (needed (request.Dis bytes isa address)) → HasPlace isa address bytes
-  bytes-fit start fit = record { least = start.0; most = start.1; fits = omega (arith, start.1, fit.0.fits) }

@@ -1,5 +1,5 @@
 -- What a verb that is opened answers, from the answers of its parts, and what its work does.
-use Rattle.std.proofs.Common.{◌≡◌, ℕ, max, true, false, List, [], refl, sym, ap, ◌∙◌, subst, Result, Ok, Err, IsErrAnd}
+use Rattle.std.proofs.Common.{◌≡◌, ℕ, max, true, false, List, [], refl, sym, ap, subst, Result, Ok, Err, IsErrAnd}
 use Rattle.std.specs.Prelude.{Option, Some, None, Vec}
 use Rattle.std.specs.declared.alloc.Global.{Global}
 use Rattle.std.proofs.Math.Nat.{max-zero}
@@ -7,10 +7,9 @@ use Rattle.chip8_lang.specs.declared.view.Edition.{Edition}
 use Rattle.chip8_lang.specs.declared.view.StopRecord.{StopRecord}
 use Rattle.chip8_lang.specs.Events.{is_stop}
 use Rattle.machine.specs.Keys.{Event as KeyEvent}
-use Rattle.vip_words.specs.Request.{Asked, HasStart, cycles_in, map_request, moves_in}
+use Rattle.vip_words.specs.Request.{Asked}
 use Rattle.vip_words.specs.Spoken.{Spoken}
-use Rattle.vip_words.specs.declared.request.Request.{Request}
-use Rattle.vip_words.specs.declared.request.Request.TheVariants as request
+use Rattle.vip_words.specs.declared.request.PlainShow.TheVariants as plain
 use Rattle.vip_words.specs.declared.request.Show.{Show}
 use Rattle.vip_words.specs.declared.request.Show.TheVariants as show
 use Rattle.vip_words.specs.declared.request.Start as asked
@@ -54,7 +53,7 @@ use Rattle.vip_tools.specs.Work.{CheckAnswers, TextAnswers}
 use Rattle.asm_lex.specs.declared.shape.Isa.{Isa}
 use Rattle.asm_listing.specs.declared.report_text.CheckText.{CheckText}
 use Rattle.vip_verbs.specs.Opening.{BeginComes, BeginsAt, CommandsIn, IsBeginning as IsBegin, IsShow, IsStarted, IsWhole, Started}
-use Rattle.vip_verbs.specs.Outcome.{HasOutcome, RomComes, RunStart, RunTo, ShowComes, StartComes, debug_ending, debugged, debugged_to, limit_from, ran, saved_as, stopped_by}
+use Rattle.vip_verbs.specs.Outcome.{HasOutcome, RomComes, RunStart, RunTo, ShowComes, StartComes, debug_ending, debugged, debugged_to, limit_from, ran, ran_with, saved_pieces, stopped_by}
 use Rattle.vip_verbs.specs.Prepared.{DebugEnds, IsBeginning, NotOpened, OpenAnswers, PerformAnswers, PrepareAnswers, ended_by, checked, run_ended, save_ended, shown_as, texted}
 use Rattle.vip_verbs.specs.declared.opening.Beginning.{Beginning}
 use Rattle.vip_verbs.specs.declared.opening.Beginning.TheVariants as beginning
@@ -120,14 +119,14 @@ module _ (e : Edition) (s : Start) (keys : Option (List ℕ)) (known : Known) (l
     Comes = RunTo e keys (λ script. shown_as ready (begun e s script) limit)
 
     comes-as : (asked : Show (List ℕ)) → IsShow known limit asked ready → (o : Outcome) → Comes o → ShowComes known e s keys limit asked o
-    comes-as (show.Trace columns) is o come = rw is at come
-    comes-as show.Pictures is o come = rw is at come
     comes-as (show.Commands text echo) is o come =
         behind (CommandsCome Chip8 known.names echo limit text) (λ commands. RunTo e keys (λ script. debugged known.labels commands e s script limit)) is.0 is.2 o
         (rw (is.4, is.3) at come)
-    comes-as show.State is o come = rw is at come
-    comes-as show.Profile is o come = rw is.1 at come
-    comes-as (show.Summary number) is o come = rw is at come
+    comes-as (show.Plain (plain.Trace columns)) is o come = rw is at come
+    comes-as (show.Plain plain.Pictures) is o come = rw is at come
+    comes-as (show.Plain plain.State) is o come = rw is at come
+    comes-as (show.Plain plain.Profile) is o come = rw is.1 at come
+    comes-as (show.Plain (plain.Summary number)) is o come = rw is at come
 
     pub run-comes : (asked : Show (List ℕ)) → IsShow known limit asked ready → (v : VipState) → BeginComes e s keys (Given v)
         → ShowComes known e s keys limit asked (shown_as ready v limit)
@@ -211,7 +210,7 @@ failed-at pieces status report old new (Err fault) bad fails = rw bad fails
 -- a run that was saved, or refused
 pub save-performs :
     (limit : ℕ) (ending : Ending) (file : Option (List ℕ)) (old new : SinkMeaning) (r : Result (Option RunEnd) Failed)
-    → SavedAnswers file ending old new r → PerformAnswers (saved_as limit ending file) old new (save_ended limit r)
+    → SavedAnswers file ending old new r → PerformAnswers (ran_with limit ending (saved_pieces file)) old new (save_ended limit r)
 save-performs limit ending None old new (Ok None) same = (refl, refl, same)
 save-performs limit ending None old new (Ok (Some end)) saves = absurd saves
 save-performs limit ending None old new (Err failed) fails = absurd fails
@@ -250,38 +249,6 @@ pub checked-answers : (isa : Isa) (name source : List ℕ) (r : Result CheckText
     → PrepareAnswers (CheckComes isa name source) (checked r)
 checked-answers isa name source (Ok told) answers = (tt, answers)
 checked-answers isa name source (Err refusal) answers = answers
-
--- with the files read, as many cycles and moves are asked for as before, and the same address
-module _ {A B : Type 0} (f : A → B) where
-  same-cycles : (r : Request A) → cycles_in (map_request f r) ≡ cycles_in r
-  same-cycles (request.Run run) = refl
-  same-cycles (request.Program run) = refl
-  same-cycles _ = refl
-
-  same-moves : (r : Request A) → moves_in (map_request f r) ≡ moves_in r
-  same-moves (request.Link message moves number) = refl
-  same-moves _ = refl
-
-  same-start : (r : Request A) → HasStart (map_request f r) ≡ HasStart r
-  same-start (request.Dis bytes isa address) = refl
-  same-start _ = refl
-
-module _ {A B : Type 0} (f : A → List ℕ) (g : B → List ℕ) (old new : FilesMeaning) (named : Request A) (read : Request B)
-    (loaded : IsLoaded old new (map_request f named) (map_request g read)) where
-  pub cycles-loaded : cycles_in read ≡ cycles_in named
-  cycles-loaded =
-      sym (same-cycles (λ _. tt) (map_request g read) ∙ same-cycles g read)
-      ∙ ap cycles_in (sym loaded.shape) ∙ same-cycles (λ _. tt) (map_request f named) ∙ same-cycles f named
-
-  pub moves-loaded : moves_in read ≡ moves_in named
-  moves-loaded =
-      sym (same-moves (λ _. tt) (map_request g read) ∙ same-moves g read)
-      ∙ ap moves_in (sym loaded.shape) ∙ same-moves (λ _. tt) (map_request f named) ∙ same-moves f named
-
-  pub start-loaded : HasStart read ≡ HasStart named
-  start-loaded =
-      sym (same-start (λ _. tt) (map_request g read) ∙ same-start g read)
-      ∙ ap HasStart (sym loaded.shape) ∙ same-start (λ _. tt) (map_request f named) ∙ same-start f named
 
 module _ (asked : Asked) (old new : FilesMeaning) where
   -- a file is refused

@@ -10,6 +10,8 @@ use Rattle.vip_text.specs.StateFile.{IsAccepted}
 use Rattle.vip_words.specs.DebugGrammar.{commands_of}
 use Rattle.vip_words.specs.Spoken.{Spoken}
 use Rattle.vip_words.specs.declared.debug_commands.Speaks.TheVariants.{Chip8, Machine as Processor}
+use Rattle.vip_words.specs.declared.request.PlainShow.{PlainShow}
+use Rattle.vip_words.specs.declared.request.PlainShow.TheVariants as plain
 use Rattle.vip_words.specs.declared.request.ProgramShow.{ProgramShow}
 use Rattle.vip_words.specs.declared.request.ProgramShow.TheVariants as program
 use Rattle.vip_words.specs.declared.request.Show.{Show}
@@ -73,16 +75,20 @@ abbrev pub OpenedAnswers : asked.Start (List ℕ) → Result Opened Refusal → 
 OpenedAnswers start (Ok opened) = IsBeginning start opened.beginning × IsWhole opened.beginning × (marked opened.marks ≡ known_in start)
 OpenedAnswers start (Err refusal) = RefusedBy (StartComes start) refusal
 
--- what is shown of a run up to a limit is ready: its commands are those that their text says, and for a profile there is memory
+-- what is shown of a run without the debugger is ready: for a profile there is memory
+abbrev pub IsPlain : PlainShow → ReadyShow → Type 0
+IsPlain (plain.Trace columns) ready = ready ≡ shows.Trace columns
+IsPlain plain.Pictures ready = ready ≡ shows.Pictures
+IsPlain plain.State ready = ready ≡ shows.State
+IsPlain plain.Profile ready = (memory : Profile) × (ready ≡ shows.Profile memory)
+IsPlain (plain.Summary number) ready = ready ≡ shows.Summary number
+
+-- what is shown of a run up to a limit is ready: its commands are those that their text says
 abbrev pub IsShow : Known → ℕ → Show (List ℕ) → ReadyShow → Type 0
-IsShow known limit (show.Trace columns) ready = ready ≡ shows.Trace columns
-IsShow known limit show.Pictures ready = ready ≡ shows.Pictures
 IsShow known limit (show.Commands text echo) ready =
     (commands : List Spoken) × (labels : List (ℕ × List ℕ)) × (commands_of Chip8 known.names echo limit text ≡ Ok commands) × (labels ≡ known.labels)
     × (ready ≡ shows.Commands commands labels)
-IsShow known limit show.State ready = ready ≡ shows.State
-IsShow known limit show.Profile ready = (memory : Profile) × (ready ≡ shows.Profile memory)
-IsShow known limit (show.Summary number) ready = ready ≡ shows.Summary number
+IsShow known limit (show.Plain shown) ready = IsPlain shown ready
 
 -- the commands of what is shown, where it has some
 abbrev pub CommandsIn : Known → ℕ → Show (List ℕ) → Judged (List Spoken)

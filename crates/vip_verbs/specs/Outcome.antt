@@ -1,5 +1,5 @@
 -- What each command comes to, by the contents of its files.
-use Rattle.std.specs.Prelude.{◌≡◌, ℕ, List, [], ◌∷◌, ◌++◌, drop, if◌then◌else◌, Option, Some, None, Result, Ok, Err, length, max}
+use Rattle.std.specs.Prelude.{◌≡◌, ℕ, List, [], ◌∷◌, ◌++◌, drop, if◌then◌else◌, Option, Some, None, option_map, Result, Ok, Err, length, max}
 use Rattle.machine.specs.Board.{Machine}
 use Rattle.machine.specs.Keys.{Event as KeyEvent, held_at}
 use Rattle.machine.specs.Run.{run_to}
@@ -16,10 +16,16 @@ use Rattle.vip_link.specs.Pair.{Pair}
 use Rattle.vip_link.specs.Schedules.{schedule_by}
 use Rattle.vip_words.specs.Spoken.{Spoken}
 use Rattle.vip_words.specs.declared.debug_commands.Speaks.TheVariants.{Chip8}
+use Rattle.vip_words.specs.declared.request.OwnText.{OwnText}
+use Rattle.vip_words.specs.declared.request.OwnText.TheVariants as own
+use Rattle.vip_words.specs.declared.request.PlainShow.{PlainShow}
+use Rattle.vip_words.specs.declared.request.PlainShow.TheVariants as plain
 use Rattle.vip_words.specs.declared.request.RunRequest.{RunRequest}
 use Rattle.vip_words.specs.declared.request.Request.TheVariants as request
 use Rattle.vip_words.specs.declared.request.Show.{Show}
 use Rattle.vip_words.specs.declared.request.Show.TheVariants as show
+use Rattle.vip_words.specs.declared.request.TextVerb.{TextVerb}
+use Rattle.vip_words.specs.declared.request.TextVerb.TheVariants as text
 use Rattle.vip_words.specs.declared.request.Start as asked
 use Rattle.vip_words.specs.declared.request.Start.TheVariants as beginning
 use Rattle.vip_debug.specs.Answers.{at_start, place_after, stop_by, written}
@@ -32,10 +38,10 @@ use Rattle.vip_show.specs.Output.{count_of, is_dispatch_event, is_picture_event,
 use Rattle.vip_show.specs.Profile.{profile_pieces}
 use Rattle.vip_show.specs.StateOutput.{saved_file}
 use Rattle.vip_text.specs.StateFile.{shown as saved_machine, IsAccepted}
+use Rattle.vip_text.specs.Bounds.{bounds_table}
 use Rattle.vip_text.specs.Summaries.{summary_line}
 use Rattle.vip_text.specs.Endings.{Ending}
 use Rattle.vip_text.specs.Endings.Ending.{AtLimit, AtStop}
-use Rattle.vip_text.specs.declared.trace.TraceColumns.{TraceColumns}
 use Rattle.vip_link.specs.Roms.{receiver_text, sender_text}
 use Rattle.vip_words.specs.declared.request.BuiltIn.{BuiltIn}
 use Rattle.vip_words.specs.declared.request.BuiltIn.TheVariants.{Interpreter, Receiver, Sender}
@@ -47,11 +53,11 @@ use Rattle.vip_tools.specs.Certificates.{CertifyComes, CyclesComes, SafeComes, T
 use Rattle.asm_lex.specs.declared.shape.Isa.TheVariants.{Chip8 as Chip8Words}
 use Rattle.vip_tools.specs.Code.{GameComes, Known, known_of, nothing_known}
 use Rattle.vip_tools.specs.Demo.{demo_game}
-use Rattle.vip_tools.specs.Help.{HelpComes, VersionComes}
+use Rattle.vip_tools.specs.Help.{help_text, version_text}
 use Rattle.vip_tools.specs.Judged.{Judged, Of, bind, each, judged, only}
 use Rattle.vip_tools.specs.Judged.Verdict.{Refused}
 use Rattle.vip_tools.specs.Opening.{CommandsCome, ScriptComes, rom_refusal}
-use Rattle.vip_tools.specs.Outcome.{BoundsComes, Ends, Outcome, Output, Shown, Writes, rom_text}
+use Rattle.vip_tools.specs.Outcome.{Ends, Outcome, Output, Shown, Writes, rom_text}
 use Rattle.vip_tools.specs.Sources.{AsmComes, CheckComes, DisComes, ListComes}
 use Rattle.vip_verbs.specs.Programs.{ProgramRunComes}
 
@@ -111,42 +117,39 @@ RunTo e keys outcome = bind (ScriptComes keys) (λ script. bind (RomComes e) (λ
 
 -- ---- what is shown of a run
 
+-- the file of a state, as what is written
+abbrev pub saved_pieces : Option (List ℕ) → Option (List (List ℕ))
+saved_pieces = option_map (λ file. file ∷ [])
+
 -- its output up to a limit, and its ending
 abbrev pub ran : ℕ → List (List ℕ) → Ending → Outcome
 ran limit pieces ending = Shown pieces (end_status ending) (end_report limit ending)
 
--- the lines behind its start, and the screen at the last dispatch point, which is the saved one where none came
-abbrev pub traced : TraceColumns → Edition → Start → List KeyEvent → ℕ → Outcome
-traced columns e s script limit =
-    ran limit
-    (trace_lines e columns (events_shown e s script limit)
-    ++ (if columns.screen then screen_piece e (last_dispatch (events_in e s script limit)) else []))
-    (run_ending e s script limit)
-
--- the pictures
-abbrev pub pictured : Edition → Start → List KeyEvent → ℕ → Outcome
-pictured e s script limit =
-    ran limit (picture_pieces (interpreter_of e).rom (run_of e s script limit) (events_shown e s script limit)) (run_ending e s script limit)
-
--- The file of the last dispatch point, and the run's end. Where there is no such point the run is refused.
-abbrev pub saved_as : ℕ → Ending → Option (List ℕ) → Outcome
-saved_as limit ending None = Refused NoDispatch no_dispatch
-saved_as limit ending (Some file) = Shown (file ∷ []) (end_status ending) (end_report limit ending)
-
-abbrev pub saved : Edition → ℕ → List Event → Outcome
-saved e limit events = saved_as limit (ending_of e events) (saved_file e events)
-
--- where its time goes
-abbrev pub profiled : Edition → Start → List KeyEvent → ℕ → Outcome
-profiled e s script limit = ran limit (profile_pieces e (events_in e s script limit)) (run_ending e s script limit)
-
--- one line that counts
-abbrev pub counted : ℕ → Edition → Start → List KeyEvent → ℕ → Outcome
-counted number e s script limit =
+-- What is written of it: the lines behind its start, and the screen at the last dispatch point, which is the saved one where none came; the pictures; the file
+-- of the last dispatch point, where there is one; where its time goes; one line that counts.
+abbrev pub pieces_of : PlainShow → Edition → Start → List KeyEvent → ℕ → Option (List (List ℕ))
+pieces_of (plain.Trace columns) e s script limit =
+    Some (
+    trace_lines e columns (events_shown e s script limit)
+    ++ (if columns.screen then screen_piece e (last_dispatch (events_in e s script limit)) else [])
+    )
+pieces_of plain.Pictures e s script limit = Some (picture_pieces (interpreter_of e).rom (run_of e s script limit) (events_shown e s script limit))
+pieces_of plain.State e s script limit = saved_pieces (saved_file e (events_in e s script limit))
+pieces_of plain.Profile e s script limit = Some (profile_pieces e (events_in e s script limit))
+pieces_of (plain.Summary number) e s script limit =
     let shown = events_shown e s script limit in
-    ran limit
-    (summary_line number (count_of is_dispatch_event shown) (count_of is_picture_event shown) (lit_at e (last_dispatch (events_in e s script limit))) ∷ [])
-    (run_ending e s script limit)
+    Some (
+    summary_line number (count_of is_dispatch_event shown) (count_of is_picture_event shown) (lit_at e (last_dispatch (events_in e s script limit)))
+    ∷ []
+    )
+
+-- that, with its end; where there is no state to save it is refused
+abbrev pub ran_with : ℕ → Ending → Option (List (List ℕ)) → Outcome
+ran_with limit ending None = Refused NoDispatch no_dispatch
+ran_with limit ending (Some pieces) = ran limit pieces ending
+
+abbrev pub shown_by : PlainShow → Edition → Start → List KeyEvent → ℕ → Outcome
+shown_by shown e s script limit = ran_with limit (run_ending e s script limit) (pieces_of shown e s script limit)
 
 -- the answers of the debugger's commands. It ends where they leave the board: with the stop, where that is a stop point, and else as at the limit.
 abbrev pub stopped_by : StopRecord → Ending
@@ -173,13 +176,9 @@ debugged labels commands e s script limit = debugged_to labels limit (limit_from
 -- A run from a start, of whose code this is known, under a script file up to a limit that is shown so. Under the debugger it comes to the first fault of its
 -- commands, or else, as other runs do, to what their answers come to.
 abbrev pub ShowComes : Known → Edition → Start → Option (List ℕ) → ℕ → Show (List ℕ) → Judged Output
-ShowComes known e s keys limit (show.Trace columns) = RunTo e keys (λ script. traced columns e s script limit)
-ShowComes known e s keys limit show.Pictures = RunTo e keys (λ script. pictured e s script limit)
+ShowComes known e s keys limit (show.Plain shown) = RunTo e keys (λ script. shown_by shown e s script limit)
 ShowComes known e s keys limit (show.Commands text echo) =
     bind (CommandsCome Chip8 known.names echo limit text) (λ commands. RunTo e keys (λ script. debugged known.labels commands e s script limit))
-ShowComes known e s keys limit show.State = RunTo e keys (λ script. saved e limit (events_in e s script limit))
-ShowComes known e s keys limit show.Profile = RunTo e keys (λ script. profiled e s script limit)
-ShowComes known e s keys limit (show.Summary number) = RunTo e keys (λ script. counted number e s script limit)
 
 abbrev pub RunComes : RunRequest (List ℕ) → Judged Output
 RunComes run = bind (StartComes run.start) (λ s. ShowComes (known_in run.start) s.edition s.start run.keys run.limit run.show)
@@ -201,15 +200,27 @@ LinkRomsCome = judged (λ done. ComparesLink (Ok done)) (λ fault. ComparesLink 
 abbrev pub LinkComes : List ℕ → ℕ → ℕ → Judged Output
 LinkComes message moves number = bind LinkRomsCome (λ _. Ends (linked (linked_after number moves message)))
 
--- ---- a source that the program has in it
+-- ---- a text of the program's own
 
 abbrev pub built_in_text : BuiltIn → List ℕ
 built_in_text (Interpreter e) = rom_text e
 built_in_text Sender = sender_text
 built_in_text Receiver = receiver_text
 
-abbrev pub BuiltInComes : BuiltIn → Judged Output
-BuiltInComes text = Writes (built_in_text text)
+abbrev pub own_text : OwnText → List ℕ
+own_text (own.Source text) = built_in_text text
+own_text own.Bounds = bounds_table
+own_text (own.Help verb) = help_text verb
+own_text own.Version = version_text
+
+-- ---- a text that is made of a file
+
+abbrev pub TextVerbComes : TextVerb → List ℕ → Judged Output
+TextVerbComes (text.Asm isa raw) source = AsmComes isa raw source
+TextVerbComes (text.Check name isa) source = CheckComes isa name source
+TextVerbComes (text.List isa) source = ListComes isa source
+TextVerbComes (text.Dis place) bytes = DisComes place.isa place.address bytes
+TextVerbComes (text.Timing entry p k) source = TimingComes source entry p k
 
 -- ---- a request
 
@@ -218,15 +229,8 @@ abbrev pub HasOutcome : Loaded → Judged Output
 HasOutcome (request.Run run) = RunComes run
 HasOutcome (request.Program run) = ProgramRunComes run
 HasOutcome (request.Link message moves number) = LinkComes message moves number
-HasOutcome (request.Asm source isa raw) = AsmComes isa raw source
-HasOutcome (request.Check source name isa) = CheckComes isa name source
-HasOutcome (request.List source isa) = ListComes isa source
-HasOutcome (request.Dis bytes isa address) = DisComes isa address bytes
-HasOutcome (request.Source text) = BuiltInComes text
-HasOutcome request.Bounds = BoundsComes
+HasOutcome (request.Text verb file) = TextVerbComes verb file
 HasOutcome (request.Cycles source certificate exits) = CyclesComes source certificate exits
-HasOutcome (request.Timing source entry p k) = TimingComes source entry p k
 HasOutcome (request.Safe code certificate edition) = bind (GameComes edition code) (λ game. SafeComes edition game certificate)
 HasOutcome (request.Certify code edition) = bind (GameComes edition code) (CertifyComes edition)
-HasOutcome (request.Help verb) = HelpComes verb
-HasOutcome request.Version = VersionComes
+HasOutcome (request.Own text) = Writes (own_text text)

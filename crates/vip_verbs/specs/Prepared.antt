@@ -17,10 +17,11 @@ use Rattle.vip_relation.specs.State.{Start, VipState, begun, events_to}
 use Rattle.vip_show.specs.Answers.{run_trace, run_pictures, run_summary}
 use Rattle.vip_show.specs.Endings.{ending_of}
 use Rattle.vip_show.specs.Profile.{profile_pieces}
+use Rattle.vip_show.specs.StateOutput.{saved_file}
 use Rattle.vip_text.specs.Endings.{Ending}
 use Rattle.vip_text.specs.declared.ending.RunEnd.{RunEnd}
 use Rattle.vip_text.specs.declared.ending.RunEnd.TheVariants as end
-use Rattle.vip_words.specs.Request.{Asked, most_cycles, most_moves}
+use Rattle.vip_words.specs.Request.{Asked}
 use Rattle.vip_tools.specs.declared.ended.Ended.{Ended}
 use Rattle.vip_tools.specs.declared.ended.Ended.TheVariants.{Ran}
 use Rattle.vip_tools.specs.declared.fault.PerformFault.{PerformFault}
@@ -34,7 +35,7 @@ use Rattle.vip_tools.specs.Judged.{By, Cause, Judged, RefusedBy, cause_of}
 use Rattle.vip_tools.specs.Judged.Cause.{Elsewhere, Memory}
 use Rattle.vip_tools.specs.Judged.Verdict.{Given, Refused}
 use Rattle.vip_tools.specs.Outcome.{Outcome, Output, Shown}
-use Rattle.vip_verbs.specs.Outcome.{HasOutcome, debugged_to, limit_from, linked, linked_after, ran, saved}
+use Rattle.vip_verbs.specs.Outcome.{HasOutcome, debugged_to, limit_from, linked, linked_after, ran, ran_with, saved_pieces}
 use Rattle.vip_verbs.specs.Programs.{IsBegun, program_debugged, program_pictured, program_traced}
 use Rattle.vip_verbs.specs.declared.prepared.Prepared.{Prepared}
 use Rattle.vip_verbs.specs.declared.prepared.Prepared.TheVariants.{Run, Program, Link, Text, Checked}
@@ -54,7 +55,7 @@ abbrev pub shown_as : ReadyShow → VipState → ℕ → Outcome
 shown_as (show.Trace columns) v limit = ran limit (run_trace columns v limit) (ended_by limit v)
 shown_as show.Pictures v limit = ran limit (run_pictures v limit) (ended_by limit v)
 shown_as (show.Commands commands labels) v limit = debugged_to labels limit (limit_from v.start limit) commands v
-shown_as show.State v limit = saved v.edition limit (events_to v limit)
+shown_as show.State v limit = ran_with limit (ended_by limit v) (saved_pieces (saved_file v.edition (events_to v limit)))
 shown_as (show.Profile memory) v limit = ran limit (profile_pieces v.edition (events_to v limit)) (ended_by limit v)
 shown_as (show.Summary number) v limit = ran limit (run_summary number v limit) (ended_by limit v)
 
@@ -87,9 +88,9 @@ pub record IsJoined (l : Linking) : Type 0 where
   pub short : length l.message ≤ most_bytes
 
 abbrev pub IsReady : Prepared → Type 0
-IsReady (Run run limit shown) = IsBeginning run × (limit ≤ most_cycles)
-IsReady (Program board limit shown) = IsBegun board × (limit ≤ most_cycles)
-IsReady (Link link number moves) = IsJoined link × (moves ≤ most_moves)
+IsReady (Run run limit shown) = IsBeginning run
+IsReady (Program board limit shown) = IsBegun board
+IsReady (Link link number moves) = IsJoined link
 IsReady (Text text) = Unit {0}
 IsReady (Checked told) = Unit {0}
 

@@ -1,7 +1,6 @@
 //! The verb `link`: two boards that are joined by port 3.
 
 ghost use Rattle.std.specs.Prelude.{◌≤◌, length};
-ghost use Rattle.vip_words.specs.Request.{most_moves};
 ghost use Rattle.vip_link.specs.Laws.{most_bytes};
 ghost use Rattle.vip_tools.specs.Judged.{Answers};
 ghost use Rattle.vip_verbs.specs.Outcome.{LinkComes, LinkRomsCome, linked, linked_after};
@@ -13,6 +12,7 @@ use std::alloc::Global;
 use vip_link::{Link, LinkFault, check_link};
 use vip_outside::Sink;
 use vip_tools::{Ended, Kind, PerformFault, Refusal};
+use vip_words::Moves;
 
 /// The refusal of two ROMs of which one isn't what its source gives.
 fn check_roms<'a>(alloc: Global) -> Result<(), Refusal<'a>>
@@ -29,11 +29,10 @@ fn check_roms<'a>(alloc: Global) -> Result<(), Refusal<'a>>
 pub(crate) fn open_link<'a>(
     alloc: Global,
     message: &[u8],
-    moves: u32,
+    moves: Moves,
     number: u32,
 ) -> Result<Prepared, Refusal<'a>>
-    requires moves { moves ≤ most_moves }
-    requires size { length message.now ≤ most_bytes }
+    requires { length message.now ≤ most_bytes }
     ensures { PrepareAnswers (LinkComes message.now moves number) result }
 {
     check_roms(alloc)?;
@@ -52,14 +51,13 @@ pub(crate) fn open_link<'a>(
 pub(crate) fn run_link<O: Sink>(
     link: &mut Link,
     number: u32,
-    moves: u32,
+    moves: Moves,
     out: &mut O,
 ) -> Result<Ended, PerformFault>
-    requires moves { moves ≤ most_moves }
-    requires joined { IsJoined link.old }
+    requires { IsJoined link.old }
     ensures { PerformAnswers (linked (linked_after number moves link.old.message)) (O.meaning out.old) (O.meaning out.new) result }
 {
-    link.run(number, moves);
+    link.run(number, moves.count());
     out.put(link.received())?;
     Ok(Ended::Linked {
         sent: link.sent(),

@@ -1,9 +1,9 @@
 //! The opening of a run of the language: its commands and its key script are read, its ROM is compared, and all the memory that it needs is taken.
 
-ghost use Rattle.std.specs.Prelude.{◌≤◌, length};
+ghost use Rattle.std.specs.Prelude.{◌≤◌, length, IfOk};
 ghost use Rattle.chip8_lang.specs.State.{memory_size};
 ghost use Rattle.vip_relation.specs.State.Start.{Reset, Saved};
-ghost use Rattle.vip_words.specs.Request.{map_run, map_show, map_start, most_cycles};
+ghost use Rattle.vip_words.specs.Request.{map_run, map_show, map_start};
 ghost use Rattle.vip_words.specs.declared.request.Request.TheVariants as asked;
 ghost use Rattle.vip_tools.specs.declared.refusal.Kind.TheVariants.{State};
 ghost use Rattle.vip_tools.specs.Code.{marked};
@@ -11,18 +11,19 @@ ghost use Rattle.vip_tools.specs.Files.{needed, script_files, show_files, start_
 ghost use Rattle.vip_tools.specs.Judged.{Answers};
 ghost use Rattle.vip_tools.specs.Opening.{keys_in};
 ghost use Rattle.vip_verbs.specs.Outcome.{RomComes, RomIs, RunComes};
-ghost use Rattle.vip_verbs.specs.Opening.{Accepts, BeginComes, BeginsAt, IsWhole, OpenedAnswers, ShowReady, Started};
+ghost use Rattle.vip_verbs.specs.Opening.{Accepts, BeginComes, BeginsAt, IsWhole, IsPlain, OpenedAnswers, ShowReady, Started};
 ghost use Rattle.vip_verbs.specs.Prepared.{PrepareAnswers};
 
 use crate::prepared::{Prepared, ReadyShow};
 use chip8_lang::Edition;
 use chip8_source::{ImageFault, check_image, check_tall};
-use std::alloc::Global;
+use std::alloc::{AllocError, Global};
 use vip_keypad::Script;
 use vip_relation::{ResumeFault, Run, StartFault};
 use vip_show::Profile;
+use vip_text::Limit;
 use vip_tools::{Marks, Refusal, demo_game, game_kind, marked_game, read_debugging, read_keys};
-use vip_words::{RunRequest, Show, Speaks, Start};
+use vip_words::{PlainShow, RunRequest, Show, Speaks, Start};
 
 /// Compares an edition's ROM with its built-in source.
 fn compare_rom(alloc: Global, edition: Edition) -> Result<(), ImageFault>
@@ -140,19 +141,30 @@ fn begin<'a>(alloc: Global, beginning: Beginning, keys: Option<Vec<u8>>) -> Resu
     }
 }
 
+/// What is shown of a run without the debugger, with its memory taken.
+fn make_plain(alloc: Global, shown: PlainShow) -> Result<ReadyShow, AllocError>
+    ensures { IfOk result (λ ready. IsPlain shown ready) }
+{
+    match shown {
+        PlainShow::Trace(columns) => Ok(ReadyShow::Trace(columns)),
+        PlainShow::Pictures => Ok(ReadyShow::Pictures),
+        PlainShow::State => Ok(ReadyShow::State),
+        PlainShow::Profile => Ok(ReadyShow::Profile(Profile::new(alloc)?)),
+        PlainShow::Summary(number) => Ok(ReadyShow::Summary(number)),
+    }
+}
+
 /// What is shown of a run up to a limit, with its commands read, by what is known of its code, and its memory taken.
 fn make_ready<'a>(
     alloc: Global,
     marks: Marks,
     show: &Show<Vec<u8>>,
-    limit: u64,
+    limit: Limit,
 ) -> Result<ReadyShow, Refusal<'a>>
     requires { AreFit (show_files (map_show (λ bytes. bytes.items) show.now)) }
     ensures { ShowReady (marked marks) limit (map_show (λ bytes. bytes.items) show.now) result }
 {
     match show {
-        Show::Trace(columns) => Ok(ReadyShow::Trace(*columns)),
-        Show::Pictures => Ok(ReadyShow::Pictures),
         Show::Commands { file, echo } => {
             let Marks { names, labels } = marks;
             let commands = read_debugging(
@@ -165,9 +177,7 @@ fn make_ready<'a>(
             )?;
             Ok(ReadyShow::Commands { commands, labels })
         }
-        Show::State => Ok(ReadyShow::State),
-        Show::Profile => Ok(ReadyShow::Profile(Profile::new(alloc)?)),
-        Show::Summary(number) => Ok(ReadyShow::Summary(*number)),
+        Show::Plain(shown) => Ok(make_plain(alloc, *shown)?),
     }
 }
 
@@ -177,8 +187,7 @@ pub(crate) fn open_run<'a>(
     alloc: Global,
     request: RunRequest<Vec<u8>>,
 ) -> Result<Prepared, Refusal<'a>>
-    requires limit { request.limit ≤ most_cycles }
-    requires fit { AreFit (needed (asked.Run (map_run (λ bytes. bytes.items) request))) }
+    requires { AreFit (needed (asked.Run (map_run (λ bytes. bytes.items) request))) }
     ensures { PrepareAnswers (RunComes (map_run (λ bytes. bytes.items) request)) result }
 {
     let limit = request.limit;

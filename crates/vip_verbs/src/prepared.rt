@@ -12,31 +12,31 @@ use vip_link::Link;
 use vip_outside::Sink;
 use vip_relation::Run;
 use vip_show::Profile;
-use vip_text::TraceColumns;
+use vip_text::{Limit, TraceColumns};
 use vip_tools::{Ended, PerformFault};
-use vip_words::Commands;
+use vip_words::{Commands, Moves};
 
 /// A verb that is ready: its files are read and judged, and it needs no more memory. What it comes to is settled: what it writes and how it ends, or
 /// that a run that is to be saved has no dispatch point.
 #[derive(Drop)]
 pub enum Prepared {
-    /// A run of the language that begins, up to a limit in machine cycles, and what is shown of it.
+    /// A run of the language that begins, up to a limit, and what is shown of it.
     Run {
         run: Run,
-        limit: u64,
+        limit: Limit,
         show: ReadyShow,
     },
     /// A run of a program for the processor that begins, up to a limit, and what is shown of it.
     Program {
         board: Board,
-        limit: u64,
+        limit: Limit,
         show: ReadyProgramShow,
     },
     /// Two boards that are joined, which make so many moves by the schedule of a number.
     Link {
         link: Link,
         number: u32,
-        moves: u32,
+        moves: Moves,
     },
     /// A text, all of the output.
     Text(Vec<u8>),

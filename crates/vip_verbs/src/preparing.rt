@@ -1,14 +1,14 @@
 //! The opening of a request: its files are read and judged, and all the memory that its work needs is taken.
 
 ghost use Rattle.std.specs.Prelude.{◌≡◌, ◌≤◌, length};
-ghost use Rattle.vip_words.specs.Request.{asked_of, cycles_in, map_code, most_cycles, most_moves, moves_in, HasStart};
+ghost use Rattle.vip_words.specs.Request.{asked_of, map_code};
 ghost use Rattle.vip_tools.specs.Certificates.{CertifyComes, SafeComes};
 ghost use Rattle.vip_tools.specs.Code.{GameComes};
-ghost use Rattle.vip_tools.specs.Files.{game_code, loaded_of, most_text, needed, AreFit, IsFit};
+ghost use Rattle.vip_tools.specs.Files.{game_code, loaded_of, most_of, most_text, needed, AreFit, IsFit};
 ghost use Rattle.vip_tools.specs.Judged.{bind};
 ghost use Rattle.vip_tools.specs.Outcome.{Writes};
 ghost use Rattle.vip_tools.specs.Work.{TextAnswers};
-ghost use Rattle.vip_verbs.specs.Outcome.{BuiltInComes, HasOutcome};
+ghost use Rattle.vip_verbs.specs.Outcome.{built_in_text, own_text, HasOutcome, TextVerbComes};
 ghost use Rattle.vip_verbs.specs.Prepared.{OpenAnswers, PrepareAnswers, checked, texted};
 
 use crate::linked::open_link;
@@ -24,7 +24,7 @@ use vip_tools::{
     Refusal, asm, bounds, certify, check, cycles, dis, game, help, list, load, safe, source,
     timing, version,
 };
-use vip_words::{BuiltIn, Code, Request};
+use vip_words::{BuiltIn, Code, OwnText, Request, TextVerb};
 
 /// A text, to be written.
 fn write<'a>(alloc: Global, text: &[u8]) -> Result<Vec<u8>, Refusal<'a>>
@@ -36,7 +36,7 @@ fn write<'a>(alloc: Global, text: &[u8]) -> Result<Vec<u8>, Refusal<'a>>
 
 /// A source that the program has in it.
 fn built_in<'a>(alloc: Global, text: BuiltIn) -> Result<Vec<u8>, Refusal<'a>>
-    ensures { TextAnswers (BuiltInComes text) result }
+    ensures { TextAnswers (Writes (built_in_text text)) result }
 {
     match text {
         BuiltIn::Interpreter(edition) => source(alloc, edition),
@@ -93,12 +93,35 @@ fn checked<'a>(told: Result<CheckText, Refusal<'a>>) -> Result<Prepared, Refusal
     }
 }
 
+/// A text of the program's own.
+fn own_text<'a>(alloc: Global, text: OwnText) -> Result<Vec<u8>, Refusal<'a>>
+    ensures { TextAnswers (Writes (own_text text)) result }
+{
+    match text {
+        OwnText::Source(source) => built_in(alloc, source),
+        OwnText::Bounds => bounds(alloc),
+        OwnText::Help(verb) => help(alloc, verb),
+        OwnText::Version => version(alloc),
+    }
+}
+
+/// A text that is made of a file.
+fn open_text<'a>(alloc: Global, verb: TextVerb, file: &[u8]) -> Result<Prepared, Refusal<'a>>
+    requires { length file.now ≤ most_of verb }
+    ensures { PrepareAnswers (TextVerbComes verb file.now) result }
+{
+    match verb {
+        TextVerb::Asm { isa, raw } => text(asm(alloc, isa, file, raw)),
+        TextVerb::Check { name, isa } => checked(check(alloc, isa, name.as_slice(), file)),
+        TextVerb::List { isa } => text(list(alloc, isa, file)),
+        TextVerb::Dis { place } => text(dis(alloc, place.isa(), file, place.address())),
+        TextVerb::Timing { entry, p, k } => text(timing(alloc, file, entry, p, k)),
+    }
+}
+
 /// Judges the contents of the files of a request, of which a saved state was judged when it was read.
 fn prepare<'a>(alloc: Global, request: Request<Vec<u8>>) -> Result<Prepared, Refusal<'a>>
-    requires limit { cycles_in request ≤ most_cycles }
-    requires moves { moves_in request ≤ most_moves }
-    requires start { HasStart request }
-    requires fit { AreFit (needed (loaded_of request)) }
+    requires { AreFit (needed (loaded_of request)) }
     ensures { PrepareAnswers (HasOutcome (loaded_of request)) result }
 {
     match request {
@@ -109,37 +132,19 @@ fn prepare<'a>(alloc: Global, request: Request<Vec<u8>>) -> Result<Prepared, Ref
             moves,
             number,
         } => open_link(alloc, message.as_slice(), moves, number),
-        Request::Asm { source, isa, raw } => text(asm(alloc, isa, source.as_slice(), raw)),
-        Request::Check { source, name, isa } => {
-            checked(check(alloc, isa, name.as_slice(), source.as_slice()))
-        }
-        Request::List { source, isa } => text(list(alloc, isa, source.as_slice())),
-        Request::Dis {
-            bytes,
-            isa,
-            address,
-        } => text(dis(alloc, isa, bytes.as_slice(), address)),
-        Request::Source(source) => text(built_in(alloc, source)),
-        Request::Bounds => text(bounds(alloc)),
+        Request::Text { verb, file } => open_text(alloc, verb, file.as_slice()),
         Request::Cycles {
             source,
             certificate,
             exits,
         } => text(cycles(alloc, source.as_slice(), certificate.as_slice(), exits)),
-        Request::Timing {
-            source,
-            entry,
-            p,
-            k,
-        } => text(timing(alloc, source.as_slice(), entry, p, k)),
         Request::Safe {
             game,
             certificate,
             edition,
         } => text(safe_code(alloc, edition, game, certificate.as_slice())),
         Request::Certify { game, edition } => text(certify_code(alloc, edition, game)),
-        Request::Help(verb) => text(help(alloc, verb)),
-        Request::Version => text(version(alloc)),
+        Request::Own(own) => text(own_text(alloc, own)),
     }
 }
 
@@ -150,9 +155,6 @@ pub fn open<'a, F: Files>(
     request: Request<&'a str>,
     files: &mut F,
 ) -> Result<Prepared, Refusal<'a>>
-    requires limit { cycles_in request ≤ most_cycles }
-    requires moves { moves_in request ≤ most_moves }
-    requires start { HasStart request }
     ensures { OpenAnswers (asked_of request.entry) (F.meaning files.old) (F.meaning files.new) result }
 {
     let request = load(alloc, files, request)?;

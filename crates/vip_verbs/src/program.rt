@@ -1,7 +1,7 @@
 //! The verbs that run a program of the user's: its board, and how its run ends.
 
 ghost use Rattle.std.specs.Prelude.{◌≡◌, ◌≤◌};
-ghost use Rattle.vip_words.specs.Request.{map_program, map_program_show, most_cycles};
+ghost use Rattle.vip_words.specs.Request.{map_program, map_program_show};
 ghost use Rattle.vip_words.specs.declared.request.Request.TheVariants as asked;
 ghost use Rattle.vip_tools.specs.Code.{FitsMemories, marked};
 ghost use Rattle.vip_tools.specs.Files.{needed, program_show_files, script_files, AreFit};
@@ -18,7 +18,7 @@ use vip_board::Board;
 use vip_debug::run_program_commands;
 use vip_outside::{Failed, Sink};
 use vip_program::{Memory, ProgramEnd, show_pictures, show_trace, start_program};
-use vip_text::RunEnd;
+use vip_text::{Limit, RunEnd};
 use vip_tools::{
     Ended, Image, Marks, PerformFault, Refusal, marked_program, read_debugging, read_keys,
 };
@@ -56,7 +56,7 @@ fn make_ready<'a>(
     alloc: Global,
     marks: Marks,
     show: &ProgramShow<Vec<u8>>,
-    limit: u64,
+    limit: Limit,
 ) -> Result<ReadyProgramShow, Refusal<'a>>
     requires { AreFit (program_show_files (map_program_show (λ bytes. bytes.items) show.now)) }
     ensures { ProgramShowReady (marked marks) limit (map_program_show (λ bytes. bytes.items) show.now) result }
@@ -85,8 +85,7 @@ pub(crate) fn open_program<'a>(
     alloc: Global,
     request: ProgramRequest<Vec<u8>>,
 ) -> Result<Prepared, Refusal<'a>>
-    requires limit { request.limit ≤ most_cycles }
-    requires fit { AreFit (needed (asked.Program (map_program (λ bytes. bytes.items) request))) }
+    requires { AreFit (needed (asked.Program (map_program (λ bytes. bytes.items) request))) }
     ensures { PrepareAnswers (ProgramRunComes (map_program (λ bytes. bytes.items) request)) result }
 {
     let limit = request.limit;
@@ -98,7 +97,7 @@ pub(crate) fn open_program<'a>(
 }
 
 /// How the run of a program ended.
-fn program_ran(limit: u64, end: Result<ProgramEnd, Failed>) -> Result<Ended, PerformFault>
+fn program_ran(limit: Limit, end: Result<ProgramEnd, Failed>) -> Result<Ended, PerformFault>
     ensures { result ≡ program_ended limit end }
 {
     match end {
@@ -111,7 +110,7 @@ fn program_ran(limit: u64, end: Result<ProgramEnd, Failed>) -> Result<Ended, Per
 /// Runs a program, and puts what is shown of it.
 pub(crate) fn perform_program<O: Sink>(
     board: &mut Board,
-    limit: u64,
+    limit: Limit,
     show: &ReadyProgramShow,
     out: &mut O,
 ) -> Result<Ended, PerformFault>

@@ -12,12 +12,12 @@ use vip_debug::{DebugEnd, run_commands};
 use vip_outside::{Failed, Sink};
 use vip_relation::{Run, Vip};
 use vip_show::{show_pictures, show_profile, show_saved, show_summary, show_trace};
-use vip_text::RunEnd;
+use vip_text::{Limit, RunEnd};
 use vip_tools::{Ended, PerformFault};
 use vip_words::Commands;
 
 /// How a run up to a limit ended.
-fn ran(limit: u64, end: Result<RunEnd, Failed>) -> Result<Ended, PerformFault>
+fn ran(limit: Limit, end: Result<RunEnd, Failed>) -> Result<Ended, PerformFault>
     ensures { result ≡ run_ended limit end }
 {
     match end {
@@ -27,7 +27,7 @@ fn ran(limit: u64, end: Result<RunEnd, Failed>) -> Result<Ended, PerformFault>
 }
 
 /// How a run up to a limit ended that was saved. It is refused where it had no dispatch point.
-fn end_of_saving(limit: u64, end: Result<Option<RunEnd>, Failed>) -> Result<Ended, PerformFault>
+fn end_of_saving(limit: Limit, end: Result<Option<RunEnd>, Failed>) -> Result<Ended, PerformFault>
     ensures { result ≡ save_ended limit end }
 {
     match end {
@@ -38,7 +38,7 @@ fn end_of_saving(limit: u64, end: Result<Option<RunEnd>, Failed>) -> Result<Ende
 }
 
 /// How a run under the debugger ended.
-fn end_of_commands(limit: u64, end: DebugEnd) -> Result<Ended, PerformFault>
+fn end_of_commands(limit: Limit, end: DebugEnd) -> Result<Ended, PerformFault>
     ensures { DebugEnds limit end result }
 {
     match end {
@@ -51,7 +51,7 @@ fn end_of_commands(limit: u64, end: DebugEnd) -> Result<Ended, PerformFault>
 /// Runs the debugger's commands on a run.
 fn debug<O: Sink>(
     run: Run,
-    limit: u64,
+    limit: Limit,
     commands: Commands,
     labels: Labels,
     out: &mut O,
@@ -69,7 +69,7 @@ fn debug<O: Sink>(
 /// Makes a run, and puts what is shown of it.
 pub(crate) fn perform_run<O: Sink>(
     mut run: Run,
-    limit: u64,
+    limit: Limit,
     show: ReadyShow,
     out: &mut O,
 ) -> Result<Ended, PerformFault>

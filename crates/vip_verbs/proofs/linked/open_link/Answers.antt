@@ -13,4 +13,4 @@ returns-in_err-check_roms c =
 
 pub returns-in-Ok : goal.returns-in-Ok
 returns-in-Ok c =
-    ((joined-of _ _ c.in-Ok.ensures.1 c.in-Ok.ensures.0, c.requires.moves), link-comes c.args.message.now c.args.moves c.args.number _ c.in-Ok.ensures.1 c.in_ok-check_roms.ensures)
+    (joined-of _ _ c.in-Ok.ensures.1 c.in-Ok.ensures.0, link-comes c.args.message.now c.args.moves c.args.number _ c.in-Ok.ensures.1 c.in_ok-check_roms.ensures)

@@ -19,16 +19,16 @@ abbrev Shows : RunRequest (List ℕ) → Edition → Start → Judged Output
 Shows asked e s = ShowComes (known_in asked.start) e s asked.keys asked.limit asked.show
 
 pub read_start-requires : goal.read_start-requires
-read_start-requires c = start-fits (map_run (λ bytes. bytes.items) c.args.request) c.requires.fit
+read_start-requires c = start-fits (map_run (λ bytes. bytes.items) c.args.request) c.requires
 
 pub make_ready-requires : goal.make_ready-requires
-make_ready-requires c = show-fits (map_run (λ bytes. bytes.items) c.args.request) c.requires.fit
+make_ready-requires c = show-fits (map_run (λ bytes. bytes.items) c.args.request) c.requires
 
 pub begin-requires-clause-beginning : goal.begin-requires-clause-beginning
 begin-requires-clause-beginning c = c.in_ok-opened.ensures.1
 
 pub begin-requires-clause-keys : goal.begin-requires-clause-keys
-begin-requires-clause-keys c = keys-fit (map_run (λ bytes. bytes.items) c.args.request) c.requires.fit
+begin-requires-clause-keys c = keys-fit (map_run (λ bytes. bytes.items) c.args.request) c.requires
 
 pub returns-in_err-opened : goal.returns-in_err-opened
 returns-in_err-opened c =
@@ -66,7 +66,7 @@ returns c =
     let at = c.in_ok-opened.opened.beginning in
     let run = c.in_ok-run.run' in
     let begins = c.in_ok-run.ensures in (
-      (beginning-of begins.value.edition begins.value.start begins.here.value run begins.here.here.here, c.requires.limit),
+      beginning-of begins.value.edition begins.value.start begins.here.value run begins.here.here.here,
       begun-comes (Shows asked) asked.start at c.in_ok-opened.ensures.0 _
           (record {
             value = begins.value;

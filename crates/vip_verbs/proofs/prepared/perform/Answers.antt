@@ -1,10 +1,7 @@
 use Rattle.vip_verbs.proofs.prepared.perform.Goals as goal
 
-pub run_link-requires-clause-joined : goal.run_link-requires-clause-joined
-run_link-requires-clause-joined g c = let ready = rw c.in-Link.is at c.requires in ready.0
-
-pub run_link-requires-clause-moves : goal.run_link-requires-clause-moves
-run_link-requires-clause-moves g c = let ready = rw c.in-Link.is at c.requires in ready.1
+pub run_link-requires : goal.run_link-requires
+run_link-requires g c = rw c.in-Link.is at c.requires
 
 pub returns-in-Link : goal.returns-in-Link
 returns-in-Link g c = rw c.in-Link.is c.run_link.ensures

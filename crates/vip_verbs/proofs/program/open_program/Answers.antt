@@ -19,16 +19,16 @@ abbrev Shows : ProgramRequest (List ℕ) → List ℕ × List ℕ → Judged Out
 Shows asked image = ProgramShowComes (known_of Cdp1802 asked.code) asked.memory image.0 image.1 asked.keys asked.limit asked.show
 
 pub marked_program-requires : goal.marked_program-requires
-marked_program-requires c = program-fits (map_program (λ bytes. bytes.items) c.args.request) c.requires.fit
+marked_program-requires c = program-fits (map_program (λ bytes. bytes.items) c.args.request) c.requires
 
 pub make_ready-requires : goal.make_ready-requires
-make_ready-requires c = program-show-fits (map_program (λ bytes. bytes.items) c.args.request) c.requires.fit
+make_ready-requires c = program-show-fits (map_program (λ bytes. bytes.items) c.args.request) c.requires
 
 pub start_board-requires-clause-image : goal.start_board-requires-clause-image
 start_board-requires-clause-image c = c.in_ok-opened.ensures.0.1
 
 pub start_board-requires-clause-keys : goal.start_board-requires-clause-keys
-start_board-requires-clause-keys c = program-keys-fit (map_program (λ bytes. bytes.items) c.args.request) c.requires.fit
+start_board-requires-clause-keys c = program-keys-fit (map_program (λ bytes. bytes.items) c.args.request) c.requires
 
 pub returns-in_err-opened : goal.returns-in_err-opened
 returns-in_err-opened c =
@@ -59,7 +59,7 @@ returns c =
     let asked = map_program (λ bytes. bytes.items) c.args.request in
     let image = c.in_ok-opened.opened.image in
     let begins = c.in_ok-board.ensures in (
-      (begun-of _ _ _ _ _ begins, c.requires.limit),
+      begun-of _ _ _ _ _ begins,
       behind (ImageComes asked.memory asked.code) (Shows asked) (image.rom.items, image.ram.items) c.in_ok-opened.ensures.0.0 _
           (program-comes asked.memory image.rom.items image.ram.items asked.keys (known_of Cdp1802 asked.code) asked.limit c.in_ok-show.show asked.show
           (subst (λ known. ProgramShowReady known asked.limit asked.show (Ok c.in_ok-show.show)) c.in_ok-opened.ensures.1 c.in_ok-show.ensures) _ begins),

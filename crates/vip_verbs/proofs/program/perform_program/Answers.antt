@@ -10,8 +10,7 @@ returns-in-Pictures g c = rw (c.in-Pictures.is, c.program_ran-in-Pictures.ensure
 
 pub run_program_commands-requires : goal.run_program_commands-requires
 run_program_commands-requires g c =
-    let begins = c.requires.0.begins in
-    record { boundary = c.requires.0.boundary; limit = c.requires.1; within = omega (arith, begins) }
+    let begins = c.requires.begins in record { boundary = c.requires.boundary; within = omega (arith, begins) }
 
 pub returns-in-Commands : goal.returns-in-Commands
 returns-in-Commands g c =

@@ -1,0 +1,32 @@
+use Rattle.std.proofs.Common.{arith}
+use Rattle.vip_tools.specs.Certificates.{TimingComes}
+use Rattle.vip_tools.specs.Sources.{AsmComes, DisComes, ListComes}
+use Rattle.vip_verbs.proofs.WorkLemmas.{checked-answers, text-answers}
+use Rattle.vip_verbs.proofs.preparing.open_text.Goals as goal
+
+pub returns-in-Asm : goal.returns-in-Asm
+returns-in-Asm c = rw (c.in-Asm.is, c.text.ensures) (text-answers (AsmComes c.in-Asm.isa c.in-Asm.raw c.args.file.now) _ c.asm.ensures)
+
+pub returns-in-Check : goal.returns-in-Check
+returns-in-Check c =
+    rw (c.in-Check.is, c.checked.ensures) (checked-answers c.in-Check.isa c.in-Check.name c.args.file.now _ (rw c.as_slice.ensures at c.check.ensures))
+
+pub returns-in-List : goal.returns-in-List
+returns-in-List c = rw (c.in-List.is, c.text-in-List.ensures) (text-answers (ListComes c.in-List.isa c.args.file.now) _ c.list.ensures)
+
+pub dis-requires : goal.dis-requires
+dis-requires c =
+    let fits = rw c.in-Dis.is at c.requires in
+    let most = c.address.ensures.most in
+    rw c.isa.ensures (record { least = c.address.ensures.least; most = most; fits = omega (arith, most, c.address.ensures.value, fits) })
+
+pub returns-in-Dis : goal.returns-in-Dis
+returns-in-Dis c =
+    let place = c.in-Dis.place in
+    rw (c.in-Dis.is, c.text-in-Dis.ensures)
+    (text-answers (DisComes place.isa place.address c.args.file.now) _ (rw (c.isa.ensures, c.address.ensures.value) at c.dis.ensures))
+
+pub returns-in-Timing : goal.returns-in-Timing
+returns-in-Timing c =
+    rw (c.in-Timing.is, c.text-in-Timing.ensures)
+    (text-answers (TimingComes c.args.file.now c.in-Timing.entry c.in-Timing.p c.in-Timing.k) _ c.timing.ensures)
