@@ -21,8 +21,8 @@ use Rattle.asm_core.specs.declared.fault.AsmCause.TheVariants.{OffPage}
 use Rattle.asm_lex.specs.Names.{Names}
 use Rattle.asm_core.specs.declared.layout.LabelValue.TheVariants.{Address}
 use Rattle.asm_core.specs.Names.{operand_value, first_operand}
-use Rattle.asm_core.specs.Layout.{placed}
-use Rattle.asm_core.specs.Encoding.{long_branch, short_branch, immediate, instruction, encoded_parts}
+use Rattle.asm_core.specs.Layout.{placed, encoded_parts, count_between}
+use Rattle.asm_core.specs.Encoding.{long_branch, short_branch, immediate, instruction}
 use Rattle.asm_listing.specs.Disassembly.{opcode_in}
 use Rattle.asm_listing.proofs.Makes.{Makes, has_no_label, line_laid, parts_encoded}
 use Rattle.asm_listing.proofs.Plain.{parts_of}
@@ -222,7 +222,7 @@ module _ (names : Names) (at : ℕ) (bytes : List ℕ) (bytes_low : AreBytes byt
             line_laid Cdp1802 names at line (Code opcode) (operand_list operand) is (Address at) (at + size_at opcode) refl
             (small_operands operand in_range) fits;
         encoded_is =
-            parts_encoded Cdp1802 names at line (Code opcode) (operand_list operand) is (at + size_at opcode)
+            parts_encoded Cdp1802 names at line (Code opcode) (operand_list operand) is (count_between (Address at) at (at + size_at opcode))
             (take (size_at opcode) bytes)
             (instruction_encoded names at bytes bytes_low whole fits);
       }

@@ -1,6 +1,6 @@
 -- What the assembler makes of an instruction of CHIP-8 in words.
 use Rattle.std.proofs.Common.{◌≡◌, ◌+◌, ◌-◌, ◌/◌, ◌%◌, ◌<◌, ◌≤◌, ℕ, zero, suc, refl, Bool, List, [], ◌∷◌, ◌++◌, length, sym, ◌∙◌, ap, subst, arith, true, false, Some, None, Option, Ok, Result, cond, eqb, ltb-true, leb-true}
-use Rattle.std.specs.Prelude.{◌&&◌, ◌||◌, ◌==◌, not, nat_le, nat_lt, All, map, sum, codes, is_some, option_and_then, slice_index, slice_index_or, IfSome}
+use Rattle.std.specs.Prelude.{◌&&◌, ◌||◌, ◌==◌, not, nat_le, nat_lt, All, map, sum, codes, is_some, option_and_then, slice_index, slice_index_or, unwrap_or, find, IfSome}
 use Rattle.std.specs.Option.{option_map, option_map_or, option_or, ok_or}
 use Rattle.std.specs.Result.{result_map_both}
 use Rattle.std.specs.Str.{bytes_eq}
@@ -12,8 +12,7 @@ use Rattle.vip_byte.specs.HexText.{hex_digit, hex2, hex4}
 use Rattle.vip_isa.proofs.Below.{at-passes_below}
 use Rattle.chip8_words.specs.declared.code.Op.{Op}
 use Rattle.chip8_words.specs.declared.table.Form.{Form}
-use Rattle.chip8_words.specs.declared.table.Form.TheVariants.{Clear, Return, Machine, Jump, Call, SkipEq, SkipNe, SkipSame, Load, Add, Copy, Or, And, Xor, Sum, Sub, Right, SubN, Left, SkipDiffer, JumpPlus, Random, Draw, SkipDown, SkipUp, GetDelay, WaitKey, SetDelay, SetSound, AddIndex, Store, Fetch}
-use Rattle.chip8_words.specs.declared.table.Form.TheVariants as form
+use Rattle.chip8_words.specs.declared.table.Form.TheVariants.{Clear, Return, Right, Left}
 use Rattle.chip8_words.specs.declared.table.Operand.{Operand}
 use Rattle.chip8_words.specs.declared.table.Operand.TheVariants.{X, Y, V0, Byte, Address, Nibble, AtIndex, DelayTimer, SoundTimer, Key}
 use Rattle.chip8_words.specs.declared.table.Operand.TheVariants as due
@@ -34,8 +33,8 @@ use Rattle.asm_lex.specs.Words.{directive_of, mnemonic_entry, entry_of, meaning_
 use Rattle.asm_core.specs.declared.layout.LabelValue.TheVariants.{Address as Place}
 use Rattle.asm_core.specs.Names.{operand_value}
 use Rattle.asm_lex.specs.Ranges.{last_of}
-use Rattle.asm_core.specs.Layout.{placed, value_cause}
-use Rattle.asm_core.specs.Encoding.{word_bytes, with_number, op_bytes, encoded_parts}
+use Rattle.asm_core.specs.Layout.{placed, encoded_parts, count_between}
+use Rattle.asm_core.specs.Encoding.{word_bytes, with_number, op_bytes, value_cause}
 use Rattle.asm_listing.specs.Disassembly.{word_in}
 use Rattle.asm_listing.proofs.Plain.{IsPlain, IsSolid, AreSolid, is_plain, parts_of, joined, behind, all_solid, parsed-any}
 use Rattle.asm_listing.proofs.Values.{hex_text, no_names, found, digit_plain, byte_plain, word_plain, digit_text_plain, byte_number, word_number, digit_number, one_number, small_number, number_operand}
@@ -242,17 +241,7 @@ module _ (op : Op) where
       → with_operand no_names old needed (operand_text op written) ≡ kind_with op old needed written
   one_kind old X written is = ap (option_map (with_x old)) is.register
   one_kind old Y written is = ap (option_map (with_y old)) is.register
-  one_kind old V0 written is = ap (λ b. cond b (Some old) None) (is.operand V0)
-  one_kind old Byte written is = ap (λ b. cond b (Some old) None) (is.operand Byte)
-  one_kind old Address written is = ap (λ b. cond b (Some old) None) (is.operand Address)
-  one_kind old Nibble written is = ap (λ b. cond b (Some old) None) (is.operand Nibble)
-  one_kind old due.Index written is = ap (λ b. cond b (Some old) None) (is.operand due.Index)
-  one_kind old AtIndex written is = ap (λ b. cond b (Some old) None) (is.operand AtIndex)
-  one_kind old DelayTimer written is = ap (λ b. cond b (Some old) None) (is.operand DelayTimer)
-  one_kind old SoundTimer written is = ap (λ b. cond b (Some old) None) (is.operand SoundTimer)
-  one_kind old Key written is = ap (λ b. cond b (Some old) None) (is.operand Key)
-  one_kind old due.Font written is = ap (λ b. cond b (Some old) None) (is.operand due.Font)
-  one_kind old due.Decimal written is = ap (λ b. cond b (Some old) None) (is.operand due.Decimal)
+  one_kind old needed written is = ap (λ b. cond b (Some old) None) (is.operand needed)
 
   abbrev AllRead : List Operand → Type 0
   AllRead written = All (Reads op) written
@@ -309,22 +298,7 @@ module _ (op : Op) where
 
 -- the first form with the mnemonic of a form
 abbrev first_form : Form → Form
-first_form SkipSame = SkipEq
-first_form SkipDiffer = SkipNe
-first_form JumpPlus = Jump
-first_form Sum = Add
-first_form AddIndex = Add
-first_form Copy = Load
-first_form form.Index = Load
-first_form GetDelay = Load
-first_form WaitKey = Load
-first_form SetDelay = Load
-first_form SetSound = Load
-first_form form.Font = Load
-first_form form.Decimal = Load
-first_form Store = Load
-first_form Fetch = Load
-first_form form = form
+first_form form = unwrap_or (find (λ other. bytes_eq (mnemonic_of other) (mnemonic_of form)) forms) form
 
 word_means : (form : Form) (operands : List (List ℕ)) → word_meaning Chip8 no_names false operands (mnemonic_of form)
     ≡ ok_or (option_map Some (option_map Instruction (op_meaning no_names (first_form form) operands))) BadOperand
@@ -468,7 +442,7 @@ module _ (op : Op) (valid : IsValid op) where
         unlabelled = has_no_label Chip8 names at line (Instruction (unnumbered op)) (texts_of op) op_parsed;
         laid_is = line_laid Chip8 names at line (Instruction (unnumbered op)) (texts_of op) op_parsed (Place at) (at + 2) refl
             (small_texts (operands_of op.form) all_read) fits;
-        encoded_is = parts_encoded Chip8 names at line (Instruction (unnumbered op)) (texts_of op) op_parsed (at + 2) (word_bytes (opcode_of_parts op))
+        encoded_is = parts_encoded Chip8 names at line (Instruction (unnumbered op)) (texts_of op) op_parsed (count_between (Place at) at (at + 2)) (word_bytes (opcode_of_parts op))
             (op_encoded names at);
       }
 

@@ -15,7 +15,8 @@ use Rattle.asm_core.specs.declared.fault.AsmCause.{AsmCause}
 use Rattle.asm_core.specs.declared.fault.AsmCause.TheVariants.{Overlap}
 use Rattle.asm_core.specs.Made.{Made, line_place, IsAssembly}
 use Rattle.asm_core.specs.Sources.{line_at, address_of, label_value, fault_2, fault_with, bytes_of, cell_in, cell_of, cell_before, overlaps}
-use Rattle.asm_core.proofs.PassTwo.{count_between, bytes_count, count_fits}
+use Rattle.asm_core.specs.Layout.{count_between}
+use Rattle.asm_core.proofs.PassTwo.{bytes_count, count_fits}
 use Rattle.vip_byte.specs.HexText.{hex2}
 use Rattle.vip_byte.specs.Text.{newline}
 use Rattle.asm_listing.specs.Listing.{blanks, label_text, digits_of, three_at, further_line, further_lines, first_digits, number_text, line_listing, listed, lines_text}

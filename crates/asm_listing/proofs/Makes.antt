@@ -1,6 +1,6 @@
 -- What the assembler makes of the lines of a disassembly that are directives.
-use Rattle.std.proofs.Common.{◌≡◌, ◌+◌, ◌<◌, ◌≤◌, ℕ, refl, List, [], ◌∷◌, ◌++◌, ◌∙◌, ap, arith, true, false, Some, None, Ok, Err, cond}
-use Rattle.std.specs.Prelude.{◌&&◌, ◌||◌, nat_le, codes, is_err, map, flat_map}
+use Rattle.std.proofs.Common.{◌≡◌, ◌+◌, ◌<◌, ◌≤◌, ℕ, refl, List, [], ◌∷◌, ◌++◌, ◌∙◌, ap, sym, arith, true, false, Some, None, Ok, Err, cond}
+use Rattle.std.specs.Prelude.{◌&&◌, ◌||◌, nat_le, codes, is_err, map, flat_map, replicate}
 use Rattle.std.specs.Option.{option_map, ok_or}
 use Rattle.std.specs.Result.{result_map_both, result_unwrap_or}
 use Rattle.std.specs.List.{list_any}
@@ -22,8 +22,9 @@ use Rattle.asm_core.specs.declared.layout.LabelValue.{LabelValue}
 use Rattle.asm_core.specs.declared.layout.LabelValue.TheVariants.{Address}
 use Rattle.asm_core.specs.Names.{operand_value}
 use Rattle.asm_lex.specs.Ranges.{origin_of, last_of}
-use Rattle.asm_core.specs.Layout.{laid, laid_out, laid_parts, placed, judged, is_too_large, label_in, label_from, from_parts, at_least, value_cause}
-use Rattle.asm_core.specs.Encoding.{word_bytes, encoded, encoded_parts, values_of, collected, is_undefined}
+use Rattle.asm_core.specs.Layout.{laid, laid_out, laid_parts, placed, judged, is_too_large, label_in, label_from, from_parts, at_least, encoded, encoded_parts, count_between}
+use Rattle.asm_core.specs.Encoding.{word_bytes, values_of, collected, is_undefined, value_cause}
+use Rattle.asm_core.proofs.PassTwo.{count_moved}
 use Rattle.asm_listing.specs.Disassembly.{data_text, origin}
 use Rattle.asm_listing.proofs.Plain.{parts_of, all_solid, parsed-with}
 use Rattle.asm_listing.proofs.Values.{hex_text, no_names, byte_plain, word_plain, byte_number, word_number, one_number, small_number, number_operand}
@@ -49,16 +50,16 @@ module _ (isa : Isa) (names : Names) (at : ℕ) (line : List ℕ) (meaning : Wor
       ∙ ap (judged isa false false) place
       ∙ cond-false (is_too_large isa false (laid value next)) (Err TooLarge) (Ok (laid value next)) (ap (λ b. b || false) (le-ltb (last_of isa + 1) next low))
 
-  pub parts_encoded : (next : ℕ) (bytes : List ℕ) → encoded_parts isa names at next (Some meaning) operands ≡ Ok bytes
-      → encoded isa no_names names at next line ≡ Ok bytes
+  pub parts_encoded : (count : ℕ) (bytes : List ℕ) → encoded_parts isa names at count (Some meaning) operands ≡ Ok bytes
+      → encoded isa no_names names at count line ≡ Ok bytes
   unfolding encoded
-  parts_encoded next bytes e = ap (from_parts (λ parts. encoded_parts isa names at next parts.word parts.operands)) is ∙ e
+  parts_encoded count bytes e = ap (from_parts (λ parts. encoded_parts isa names at count parts.word parts.operands)) is ∙ e
 
 -- what the assembler makes of one line where no name has a value yet: the address behind it, and its bytes
 pub record Makes (isa : Isa) (names : Names) (at : ℕ) (line : List ℕ) (value : LabelValue) (next : ℕ) (bytes : List ℕ) : Type 0 where
   pub unlabelled : label_in isa no_names line ≡ None
   pub laid_is : laid_out isa no_names at line ≡ Ok (laid value next)
-  pub encoded_is : encoded isa no_names names at next line ≡ Ok bytes
+  pub encoded_is : encoded isa no_names names at (count_between value at next) line ≡ Ok bytes
 
 -- one operand, a number
 module _ (isa : Isa) (o : List ℕ) where
@@ -96,7 +97,8 @@ module _ (isa : Isa) (names : Names) (at : ℕ) where
             (ap (λ r. result_map_both (λ address. laid (Address address) address) (λ fault. fault) r) value)
             (ap (λ b. b || false) (small_number isa o plain (omega arith) start number (omega arith)))
             (omega (arith, most));
-        encoded_is = parts_encoded isa names at (origin start) Org (o ∷ []) is start [] refl;
+        encoded_is = parts_encoded isa names at (origin start) Org (o ∷ []) is (count_between (Address start) at start) []
+            (ap (λ count. Ok (replicate count 0)) (sym (count_moved at start)));
       }
 
   -- a byte of data
@@ -114,7 +116,7 @@ module _ (isa : Isa) (names : Names) (at : ℕ) where
         unlabelled = has_no_label isa names at (data_text byte) Db (o ∷ []) is;
         laid_is = line_laid isa names at (data_text byte) Db (o ∷ []) is (Address at) (at + 1) refl
             (ap (λ b. b || false) (small_number isa o plain (omega arith) byte number (omega arith))) fits;
-        encoded_is = parts_encoded isa names at (data_text byte) Db (o ∷ []) is (at + 1) (byte ∷ [])
+        encoded_is = parts_encoded isa names at (data_text byte) Db (o ∷ []) is (count_between (Address at) at (at + 1)) (byte ∷ [])
             (ap (λ r. result_map_both (λ bytes. bytes) value_cause
             (cond (list_any is_undefined (r ∷ [])) (Err NoValue)
             (cond (list_any is_err (r ∷ [])) (Err Range) (Ok (map (λ result. result_unwrap_or result 0) (r ∷ [])))))) value);
@@ -138,7 +140,7 @@ module _ (isa : Isa) (names : Names) (at : ℕ) where
         unlabelled = has_no_label isa names at line Dw (o ∷ []) is;
         laid_is = line_laid isa names at line Dw (o ∷ []) is (Address at) (at + 2) refl
             (ap (λ b. b || false) (small_number isa o plain (omega arith) word number (omega arith))) fits;
-        encoded_is = parts_encoded isa names at line Dw (o ∷ []) is (at + 2) (word_bytes word)
+        encoded_is = parts_encoded isa names at line Dw (o ∷ []) is (count_between (Address at) at (at + 2)) (word_bytes word)
             (ap (λ r. result_map_both (flat_map word_bytes) value_cause
             (cond (list_any is_undefined (r ∷ [])) (Err NoValue)
             (cond (list_any is_err (r ∷ [])) (Err Range) (Ok (map (λ result. result_unwrap_or result 0) (r ∷ [])))))) value);

@@ -21,9 +21,8 @@ use Rattle.asm_lex.specs.Names.{Names}
 use Rattle.asm_core.specs.declared.layout.LabelValue.{LabelValue}
 use Rattle.asm_core.specs.declared.layout.LabelValue.TheVariants.{Address}
 use Rattle.asm_lex.specs.Ranges.{origin_of, last_of}
-use Rattle.asm_core.specs.Layout.{laid, laid_out, laid_parts, label_in, from_parts}
-use Rattle.asm_core.specs.Encoding.{encoded}
-use Rattle.asm_core.specs.Sources.{source_lines, Known, known_after, known_at, names_before, address_of, all_names, line_at, NoFault, fault_1, fault_2, fault_with, bytes_of, cell_in, cell_of, cell_before, overlaps}
+use Rattle.asm_core.specs.Layout.{laid, laid_out, laid_parts, label_in, from_parts, encoded, count_between}
+use Rattle.asm_core.specs.Sources.{source_lines, Known, known_after, known_at, names_before, address_of, all_names, line_at, NoFault, fault_1, fault_2, fault_with, bytes_of, cell_in, cell_of, cell_before, overlaps, count_of, label_value, value_from}
 use Rattle.asm_core.proofs.Lines.{source_lines-empty, source_lines-next}
 use Rattle.asm_core.proofs.PassOne.{line_here, no_line, known_at-first, known_at-next}
 use Rattle.vip_byte.specs.Text.{newline}
@@ -255,15 +254,25 @@ module _ (isa : Isa) (source : List (List ℕ)) (start : ℕ) where
     unfolding fault_1
     no_fault = ap result_err laid_here
 
+    value_here : label_value isa source k ≡ value
+    unfolding label_value
+    value_here = ap value_from laid_here
+
+    count_here : count_of isa source k ≡ count_between value at next
+    count_here =
+        let after : address_of isa source (suc k) ≡ next = ap (λ n. address_of isa source n) (omega arith) ∙ next_place in
+        ap (λ v. count_between v (address_of isa source k) (address_of isa source (suc k))) value_here
+        ∙ ap (λ a. count_between value a (address_of isa source (suc k))) place
+        ∙ ap (count_between value at) after
+
     bytes_here : bytes_of isa source k ≡ Ok made
     unfolding bytes_of
     bytes_here =
-        let after : address_of isa source (suc k) ≡ next = ap (λ n. address_of isa source n) (omega arith) ∙ next_place in
         let all : Names = all_names isa source in
-        ap (λ names. encoded isa names all (address_of isa source k) (address_of isa source (suc k)) (line_at source k)) unnamed
-        ∙ ap (λ a. encoded isa no_names all a (address_of isa source (suc k)) (line_at source k)) place
-        ∙ ap (λ n. encoded isa no_names all at n (line_at source k)) after
-        ∙ ap (encoded isa no_names all at next) here
+        ap (λ names. encoded isa names all (address_of isa source k) (count_of isa source k) (line_at source k)) unnamed
+        ∙ ap (λ a. encoded isa no_names all a (count_of isa source k) (line_at source k)) place
+        ∙ ap (λ n. encoded isa no_names all at n (line_at source k)) count_here
+        ∙ ap (encoded isa no_names all at (count_between value at next)) here
         ∙ (makes all).encoded_is
 
     cell_here : (address : ℕ) → cell_of isa source k address ≡ cell_in (k + 1) at made address

@@ -58,7 +58,7 @@ line_listing number shown at bytes line =
     number_text number ++ (codes " " ++
     (label_text shown ++ (codes " " ++ (first_digits bytes ++ (codes " " ++ (line ++ (newline ++ further_lines at bytes)))))))
 
--- line i, counted from 0: EQU shows its value, ORG and PAGE the new address, and each other line the address at which it begins
+-- line i, counted from 0: EQU shows its value, a line that moves the address the new one, and each other line the address at which it begins
 abbrev pub listed : Isa → List (List ℕ) → ℕ → List ℕ
 listed isa source i =
     line_listing (i + 1) (label_value isa source i) (address_of isa source i) (result_unwrap_or (bytes_of isa source i) []) (line_at source i)

@@ -1,19 +1,14 @@
 -- The bytes of a line, read off an assembly.
-use Rattle.std.specs.Prelude.{◌-◌, ◌==◌, ℕ, List, map, if◌then◌else◌}
+use Rattle.std.specs.Prelude.{ℕ, List, map}
 use Rattle.std.specs.Option.{option_map_or}
 use Rattle.std.specs.List.{range_with_len}
-use Rattle.asm_core.specs.declared.layout.LabelValue.{LabelValue}
-use Rattle.asm_core.specs.declared.layout.LabelValue.TheVariants.{Address, Given}
 use Rattle.asm_core.specs.declared.assembly.LinePlace.{LinePlace}
+use Rattle.asm_core.specs.Layout.{count_between}
 use Rattle.asm_core.specs.Made.{Made, cell_at}
 
--- how many bytes a line has: those up to the next address, unless its label has another value than its own address
-abbrev pub count_by : LabelValue → ℕ → ℕ → ℕ
-count_by (Address address) at next = if address == at then next - at else 0
-count_by (Given value) at next = 0
-
+-- how many bytes a line has
 abbrev pub byte_count : LinePlace → ℕ
-byte_count place = count_by place.value place.at place.next
+byte_count place = count_between place.value place.at place.next
 
 -- the bytes at an address and behind it
 abbrev pub byte_at : Made → ℕ → ℕ

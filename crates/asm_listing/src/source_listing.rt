@@ -38,18 +38,6 @@ fn append_number(list: &mut Vec<u8>, number: usize) -> Result<(), AllocError>
     append(list, text)
 }
 
-// How many bytes a line has.
-fn byte_count(place: &LinePlace) -> u32
-    ensures { result ≡ byte_count place.now }
-{
-    match place.value {
-        LabelValue::Address(address) if address == place.at => {
-            place.next.saturating_sub(place.at)
-        }
-        _ => 0,
-    }
-}
-
 fn byte_at(made: &Assembly, address: u16) -> u8
     ensures { result ≡ byte_at made.now address }
 {
@@ -153,7 +141,7 @@ fn append_line(
     ensures { OnOk result (list.new.items ≡ list.old.items
         ++ line_listing number place.now.value place.now.at (bytes_from made.now place.now.at (byte_count place.now)) line.now) }
 {
-    let count = byte_count(place);
+    let count = place.byte_count();
     append_number(list, number)?;
     append(list, b" ")?;
     append_label(list, place.value)?;
