@@ -17,6 +17,7 @@ use Rattle.rom_board.specs.Laws.{EveryRun}
 use Rattle.rom_board.specs.Program.{numbered, program}
 use Rattle.chip8_image.specs.Interpreters.{interpreter_of}
 use Rattle.vip_words.specs.declared.request.Request.TheVariants as request
+use Rattle.vip_words.specs.declared.request.TextVerb.TheVariants as text
 use Rattle.vip_tools.specs.declared.status.Status.TheVariants.{Done}
 use Rattle.vip_tools.specs.Files.{Loaded, needed}
 use Rattle.vip_tools.specs.Judged.Verdict.{Given}
@@ -72,7 +73,7 @@ module _ (routines : AcceptedIsWithin) (games : CertifiedGames) (law : EveryRun)
   shows (request.Cycles source certificate exits) output given comes =
       let routine = comes.here in
       record { bound = routine.value; named = written output _ routine.here; leaves = routines _ certificate routine.value comes.value.fits routine.gives }
-  shows (request.Timing source entry p k) output given comes =
+  shows (request.Text (text.Timing entry p k) source) output given comes =
       let at = comes.here in
       let found = at.here in
       record {

@@ -3,7 +3,7 @@ use Rattle.std.proofs.Common.{◌≡◌, ℕ, ◌<◌, ◌≤◌, List, [], ◌�
 use Rattle.std.specs.Prelude.{option_map}
 use Rattle.std.proofs.lemmas.List.{map-append}
 use Rattle.vip_outside.specs.Files.{FilesMeaning}
-use Rattle.vip_words.specs.Request.{Asked, InRange, map_code, map_program_show, map_request, map_show, map_start}
+use Rattle.vip_words.specs.Request.{Asked, map_code, map_program_show, map_request, map_show, map_start}
 use Rattle.vip_words.specs.Rules.{Word}
 use Rattle.vip_words.specs.declared.request.Code.{Code}
 use Rattle.vip_words.specs.declared.request.Code.TheVariants as code
@@ -37,12 +37,8 @@ module _ {A B : Type 0} (f : A → B) where
   start_mosts (start.Demo number) = refl
 
   show_mosts : (s : Show A) → mosts (show_files (map_show f s)) ≡ mosts (show_files s)
-  show_mosts (show.Trace columns) = refl
-  show_mosts show.Pictures = refl
   show_mosts (show.Commands file echo) = refl
-  show_mosts show.State = refl
-  show_mosts show.Profile = refl
-  show_mosts (show.Summary number) = refl
+  show_mosts (show.Plain shown) = refl
 
   script_mosts : (k : Option A) → mosts (script_files (option_map f k)) ≡ mosts (script_files k)
   script_mosts None = refl
@@ -78,14 +74,6 @@ same_mosts f (request.Program run) =
 same_mosts f (request.Safe game certificate edition) = ap (λ most. most ∷ most_text ∷ []) (code_most f (game_kind edition) (memory_size edition) game)
 same_mosts f (request.Certify game edition) = ap (λ most. most ∷ []) (code_most f (game_kind edition) (memory_size edition) game)
 same_mosts f _ = refl
-
--- ---- the numbers
-
--- they don't hang on the files either
-module _ {A B : Type 0} (f : A → B) where
-  pub in_range : (r : Request A) → InRange (map_request f r) → InRange r
-  in_range (request.Dis bytes isa address) x = record { cycles = x.cycles; moves = x.moves; start = x.start }
-  in_range _ x = record { cycles = x.cycles; moves = x.moves; start = x.start }
 
 -- ---- the files are small enough, and of bytes
 
@@ -134,12 +122,8 @@ behind_start (start.State file) xs = other_files xs
 behind_start (start.Demo number) xs = xs
 
 abbrev fill_show : Show (Unit {0}) → List (List ℕ) → Show (List ℕ)
-fill_show (show.Trace columns) xs = show.Trace columns
-fill_show show.Pictures xs = show.Pictures
 fill_show (show.Commands file echo) xs = show.Commands (first_file xs) echo
-fill_show show.State xs = show.State
-fill_show show.Profile xs = show.Profile
-fill_show (show.Summary number) xs = show.Summary number
+fill_show (show.Plain shown) xs = show.Plain shown
 
 abbrev behind_show : Show (Unit {0}) → List (List ℕ) → List (List ℕ)
 behind_show (show.Commands file echo) xs = other_files xs
@@ -177,18 +161,11 @@ fill (request.Program run) xs =
       show = fill_program_show run.show ys;
     })
 fill (request.Link message moves number) xs = request.Link (first_file xs) moves number
-fill (request.Asm source isa raw) xs = request.Asm (first_file xs) isa raw
-fill (request.Check source name isa) xs = request.Check (first_file xs) name isa
-fill (request.List source isa) xs = request.List (first_file xs) isa
-fill (request.Dis bytes isa address) xs = request.Dis (first_file xs) isa address
-fill (request.Source text) xs = request.Source text
-fill request.Bounds xs = request.Bounds
+fill (request.Text verb file) xs = request.Text verb (first_file xs)
 fill (request.Cycles source certificate exits) xs = request.Cycles (first_file xs) (first_file (other_files xs)) exits
-fill (request.Timing source entry p k) xs = request.Timing (first_file xs) entry p k
 fill (request.Safe code certificate edition) xs = request.Safe (with_file code (first_file xs)) (first_file (other_files xs)) edition
 fill (request.Certify code edition) xs = request.Certify (with_file code (first_file xs)) edition
-fill (request.Help verb) xs = request.Help verb
-fill request.Version xs = request.Version
+fill (request.Own text) xs = request.Own text
 
 abbrev bare : List ℕ → Unit {0}
 bare x = tt
@@ -208,20 +185,12 @@ start_left (start.State file) ns = refl
 start_left (start.Demo number) ns = refl
 
 show_filled : (s : Show (List ℕ)) (ns : List (Needed (List ℕ))) → fill_show (map_show bare s) (files_of (show_files s ++ ns)) ≡ s
-show_filled (show.Trace columns) ns = refl
-show_filled show.Pictures ns = refl
 show_filled (show.Commands file echo) ns = refl
-show_filled show.State ns = refl
-show_filled show.Profile ns = refl
-show_filled (show.Summary number) ns = refl
+show_filled (show.Plain shown) ns = refl
 
 show_left : (s : Show (List ℕ)) (ns : List (Needed (List ℕ))) → behind_show (map_show bare s) (files_of (show_files s ++ ns)) ≡ files_of ns
-show_left (show.Trace columns) ns = refl
-show_left show.Pictures ns = refl
 show_left (show.Commands file echo) ns = refl
-show_left show.State ns = refl
-show_left show.Profile ns = refl
-show_left (show.Summary number) ns = refl
+show_left (show.Plain shown) ns = refl
 
 program_show_filled : (s : ProgramShow (List ℕ)) (ns : List (Needed (List ℕ)))
     → fill_program_show (map_program_show bare s) (files_of (program_show_files s ++ ns)) ≡ s

@@ -16,7 +16,6 @@ use Rattle.vip_relation.specs.State.{Start, begun, machine_of}
 use Rattle.vip_relation.specs.State.Start.{Reset, Saved}
 use Rattle.vip_relation.proofs.Beginning.{begins-running}
 use Rattle.vip_show.specs.Endings.{ending_after, ending_of}
-use Rattle.vip_show.specs.StateOutput.{saved_file}
 use Rattle.vip_text.specs.Endings.{Ending}
 use Rattle.vip_text.specs.Endings.Ending.{AtLimit}
 use Rattle.vip_text.specs.StateFile.{shown}
@@ -31,7 +30,7 @@ use Rattle.vip_tools.specs.Report.{end_report}
 use Rattle.vip_tools.specs.Status.{end_status}
 use Rattle.vip_tools.proofs.JudgedLemmas.{same_value}
 use Rattle.vip_tools.specs.Code.{Known}
-use Rattle.vip_verbs.specs.Outcome.{known_in, HasOutcome, RunTo, ShowComes, run_of, events_in, ran, run_ending, debug_ending, limit_from, saved_as}
+use Rattle.vip_verbs.specs.Outcome.{known_in, HasOutcome, RunTo, ShowComes, run_of, events_in, ran, run_ending, debug_ending, limit_from, pieces_of, ran_with}
 use Rattle.vip_call.specs.Top.{Call, SpeaksChip8}
 use Rattle.vip_call.proofs.DebugLemmas.{debug_ends}
 use Rattle.vip_call.proofs.FilledLemmas.{AreGiven, are_given}
@@ -96,20 +95,17 @@ module _ (law : EveryRun) (from : FromFile) (frames : EveryFrame) (frames_from :
         → RunTo e keys (λ script. ran limit (pieces script) (told script)) (Given output) → RunIsChip8 e s keys limit asked_show output.status output.report
     shows_run pieces told ends comes = told_run comes.value comes.gives (pieces comes.value) (told comes.value) (ends comes.value) comes.here.here
 
-    -- what is saved
-    shows_saved :
+    -- what is shown without the debugger
+    shows_plain :
         (script : List KeyEvent) → script_in keys ≡ Ok script → IsEndOf asked_show (run_ending e s script limit) (run_ending e s script limit)
-        → (file : Option (List ℕ)) → Given output ≡ saved_as limit (run_ending e s script limit) file
+        → (pieces : Option (List (List ℕ))) → Given output ≡ ran_with limit (run_ending e s script limit) pieces
         → RunIsChip8 e s keys limit asked_show output.status output.report
-    shows_saved script reads ends None is = absurd (cc)
-    shows_saved script reads ends (Some file) is = told_run script reads (file ∷ []) (run_ending e s script limit) ends is
+    shows_plain script reads ends None is = absurd (cc)
+    shows_plain script reads ends (Some pieces) is = told_run script reads pieces (run_ending e s script limit) ends is
 
   shows_as :
       (known : Known) (e : Edition) (s : Start) (fits : Fits e s) (keys : Option (List ℕ)) (limit : ℕ) (shown_as : Show (List ℕ)) (output : Output)
       → ShowComes known e s keys limit shown_as (Given output) → RunIsChip8 e s keys limit shown_as output.status output.report
-  shows_as known e s fits keys limit (show.Trace columns) output comes =
-      shows_run e s fits keys limit (show.Trace columns) output _ _ (λ script. refl) comes
-  shows_as known e s fits keys limit show.Pictures output comes = shows_run e s fits keys limit show.Pictures output _ _ (λ script. refl) comes
   shows_as known e s fits keys limit (show.Commands text echo) output comes =
       let commands = comes.value in
       shows_run e s fits keys limit (show.Commands text echo) output _ (λ script. debug_ending (begun e s script) (limit_from s limit) commands)
@@ -121,10 +117,8 @@ module _ (law : EveryRun) (from : FromFile) (frames : EveryFrame) (frames_from :
           (z ≡ AtLimit) ⊎ (z ≡ run_ending e s script (limit_from s limit)) → (z ≡ AtLimit) ⊎ (z ≡ run_ending e s script limit)
       ends script (inl is) = inl is
       ends script (inr is) = inr (is ∙ same_ending e s script limit)
-  shows_as known e s fits keys limit show.State output comes =
-      shows_saved e s fits keys limit show.State output comes.value comes.gives refl (saved_file e (events_in e s comes.value limit)) comes.here.here
-  shows_as known e s fits keys limit show.Profile output comes = shows_run e s fits keys limit show.Profile output _ _ (λ script. refl) comes
-  shows_as known e s fits keys limit (show.Summary number) output comes = shows_run e s fits keys limit (show.Summary number) output _ _ (λ script. refl) comes
+  shows_as known e s fits keys limit (show.Plain shown) output comes =
+      shows_plain e s fits keys limit (show.Plain shown) output comes.value comes.gives refl (pieces_of shown e s comes.value limit) comes.here.here
 
   shows : (loaded : Loaded) (output : Output) → AreGiven (needed loaded) → HasOutcome loaded (Given output) → ShowsChip8 loaded output.status output.report
   shows (request.Run run) output given comes =

@@ -52,6 +52,8 @@ use Rattle.vip_words.specs.declared.request.Show.{Show}
 use Rattle.vip_words.specs.declared.request.Show.TheVariants as show
 use Rattle.vip_words.specs.declared.request.Start as asked
 use Rattle.vip_words.specs.declared.request.Start.TheVariants as beginning
+use Rattle.vip_words.specs.declared.request.TextVerb.{TextVerb}
+use Rattle.vip_words.specs.declared.request.TextVerb.TheVariants as text
 use Rattle.vip_tools.specs.Certificates.{EntryComes, ProofComes, ProofFound, RoutineComes, RoutineFound, SafeComes, CertifyComes, CyclesComes, SourceRom, TimingComes, cert_refusal, count_line, exits_asked, find_refusal, proof_refusal, rom_in, routine_text, timing_refusal}
 use Rattle.vip_tools.specs.Code.{FitComes, GameComes, ImageComes, IsFitGame, IsLarge, Known, LaidComes, known_of}
 use Rattle.vip_tools.specs.Files.{Loaded}
@@ -68,7 +70,7 @@ use Rattle.vip_tools.specs.declared.status.Status.{Status}
 use Rattle.vip_tools.specs.declared.status.Status.TheVariants.{BadSource, Done}
 use Rattle.vip_tools.proofs.CodeLemmas.{one_game}
 use Rattle.vip_tools.proofs.JudgedLemmas.{Agree, AgreeOn, AllSound, Any, IsFine, Sound, alone_agree, alone_sound, bind_agree, bind_sound, each_agree, each_sound, judged_agree, judged_sound, only_agree, result_agree, same_agree, search_agree}
-use Rattle.vip_verbs.specs.Outcome.{HasOutcome, IsSavedIn, LinkRomsCome, RomComes, RomIs, RunStart, RunTo, ShowComes, StartComes, known_in, linked, linked_after, run_ending, saved_as}
+use Rattle.vip_verbs.specs.Outcome.{HasOutcome, IsSavedIn, LinkRomsCome, RomComes, RomIs, RunStart, RunTo, ShowComes, StartComes, TextVerbComes, known_in, linked, linked_after, pieces_of, ran_with, run_ending}
 use Rattle.vip_verbs.specs.Programs.{ProgramComes, ProgramShowComes, memory_in, program_debugged, program_pictured, program_traced}
 use Rattle.vip_call.specs.Top.{IsCheck, IsOfRom, IsSearch}
 
@@ -187,6 +189,12 @@ timing_once source entry p k =
     (λ a b. any_behind (RoutineFound (rom_in source) a p k) (RoutineFound (rom_in source) b p k) Writes Writes
     (search_agree _ _ _ _ timing_refusal timing_never) writes_once))
 
+text_verb_once : (verb : TextVerb) (file : List ℕ) → OneEnd (TextVerbComes verb file) (TextVerbComes verb file)
+text_verb_once (text.Asm isa raw) source = text_once isa source (IsBytes isa raw)
+text_verb_once (text.List isa) source = text_once isa source (λ made text. IsListing isa (source_lines source) text)
+text_verb_once (text.Timing entry p k) source = timing_once source entry p k
+text_verb_once _ file = ends_once _
+
 safe_once : (e : Edition) (game text : List ℕ) → OneEnd (SafeComes e game text) (SafeComes e game text)
 safe_once e game text = once_behind (ProofComes e game text) (λ count. Writes (count_line count)) (result_agree (proof_of e game text) proof_refusal) (λ count. ends_once _)
 
@@ -293,14 +301,10 @@ module _ (given : RomsGiven) where
 
   show_once : (known : Known) (e : Edition) (s : Start) (keys : Option (List ℕ)) (limit : ℕ) (shown : Show (List ℕ))
       → OneEnd (ShowComes known e s keys limit shown) (ShowComes known e s keys limit shown)
-  show_once known e s keys limit (show.Trace columns) = run_once e keys _
-  show_once known e s keys limit show.Pictures = run_once e keys _
   show_once known e s keys limit (show.Commands text echo) =
       once_behind (CommandsCome Chip8 known.names echo limit text) _ (result_agree (commands_of Chip8 known.names echo limit text) command_refusal)
       (λ commands. run_once e keys _)
-  show_once known e s keys limit show.State = run_once e keys _
-  show_once known e s keys limit show.Profile = run_once e keys _
-  show_once known e s keys limit (show.Summary number) = run_once e keys _
+  show_once known e s keys limit (show.Plain shown) = run_once e keys _
 
   -- a request comes to one outcome
   pub agree : (loaded : Loaded) → OneEnd (HasOutcome loaded) (HasOutcome loaded)
@@ -314,10 +318,8 @@ module _ (given : RomsGiven) where
   agree (request.Link message moves number) =
       any_behind LinkRomsCome LinkRomsCome (λ _. Ends (linked (linked_after number moves message))) (λ _. Ends (linked (linked_after number moves message))) links_once
       (λ _ _. ends_once _)
-  agree (request.Asm source isa raw) = text_once isa source (IsBytes isa raw)
-  agree (request.List source isa) = text_once isa source (λ made text. IsListing isa (source_lines source) text)
+  agree (request.Text verb file) = text_verb_once verb file
   agree (request.Cycles source certificate exits) = cycles_once source certificate exits
-  agree (request.Timing source entry p k) = timing_once source entry p k
   agree (request.Safe code certificate edition) =
       once_behind (GameComes edition code) (λ game. SafeComes edition game certificate) (game_once edition code) (λ game. safe_once edition game certificate)
   agree (request.Certify code edition) = once_behind (GameComes edition code) (CertifyComes edition) (game_once edition code) (certify_once edition)
@@ -402,9 +404,9 @@ module _ (given : RomsGiven) where
     run_ends AtLimit bad = absurd (cc)
     run_ends (AtStop stop pc opcode) bad = absurd (cc)
 
-    saved_sound : (limit : ℕ) (ending : Ending) (file : Option (List ℕ)) → Sound IsDue (EndsWell loaded) (IsSearch loaded) (saved_as limit ending file)
-    saved_sound limit ending None = λ x. x
-    saved_sound limit ending (Some file) = run_ends ending
+    ran_sound : (limit : ℕ) (ending : Ending) (pieces : Option (List (List ℕ))) → Sound IsDue (EndsWell loaded) (IsSearch loaded) (ran_with limit ending pieces)
+    ran_sound limit ending None = λ x. x
+    ran_sound limit ending (Some pieces) = run_ends ending
 
     run_free : (e : Edition) (keys : Option (List ℕ)) (outcome : List KeyEvent → Outcome)
         → ((script : List KeyEvent) → Sound IsDue (EndsWell loaded) (IsSearch loaded) (outcome script)) → Free loaded (RunTo e keys outcome)
@@ -413,13 +415,10 @@ module _ (given : RomsGiven) where
         (λ script. free_behind (RomComes e) _ (part _ _ rom_refusal (λ f x. rom_fine f (rom_never e f x))) (λ _. ends_free (outcome script) (sound script)))
 
     show_free : (known : Known) (e : Edition) (s : Start) (keys : Option (List ℕ)) (limit : ℕ) (shown : Show (List ℕ)) → Free loaded (ShowComes known e s keys limit shown)
-    show_free known e s keys limit (show.Trace columns) = run_free e keys _ (λ script. run_ends (run_ending e s script limit))
-    show_free known e s keys limit show.Pictures = run_free e keys _ (λ script. run_ends (run_ending e s script limit))
     show_free known e s keys limit (show.Commands text echo) =
         free_behind (CommandsCome Chip8 known.names echo limit text) _ (part _ _ command_refusal (λ f x. command_fine f)) (λ commands. run_free e keys _ (λ script. run_ends _))
-    show_free known e s keys limit show.State = run_free e keys _ (λ script. saved_sound limit _ _)
-    show_free known e s keys limit show.Profile = run_free e keys _ (λ script. run_ends (run_ending e s script limit))
-    show_free known e s keys limit (show.Summary number) = run_free e keys _ (λ script. run_ends (run_ending e s script limit))
+    show_free known e s keys limit (show.Plain shown) =
+        run_free e keys _ (λ script. ran_sound limit (run_ending e s script limit) (pieces_of shown e s script limit))
 
     program_free : (memory : Memory) (rom ram : List ℕ) (keys : Option (List ℕ)) (outcome : Seen → Outcome)
         → ((board : Seen) → Sound IsDue (EndsWell loaded) (IsSearch loaded) (outcome board)) → Free loaded (ProgramComes memory rom ram keys outcome)
@@ -434,6 +433,22 @@ module _ (given : RomsGiven) where
         (part _ _ command_refusal (λ f x. command_fine f))
         (λ commands. program_free memory rom ram keys (program_debugged known.labels commands limit) (λ board bad. absurd (cc)))
 
+  text_verb_free : (verb : TextVerb) (file : List ℕ) → Free (request.Text verb file) (TextVerbComes verb file)
+  text_verb_free (text.Asm isa raw) source = text_free (request.Text (text.Asm isa raw) source) isa source (IsBytes isa raw)
+  text_verb_free (text.Check name isa) source = ends_free (request.Text (text.Check name isa) source) _ (λ bad. tt)
+  text_verb_free (text.List isa) source =
+      text_free (request.Text (text.List isa) source) isa source (λ made text. IsListing isa (source_lines source) text)
+  text_verb_free (text.Dis place) bytes = writes_free (request.Text (text.Dis place) bytes) _
+  text_verb_free (text.Timing entry p k) source =
+      let l = request.Text (text.Timing entry p k) source in
+      free_behind l (SourceRom source) _ (assembled_free l source)
+      (λ made. free_behind l (EntryComes made.made entry) _ (part l _ _ _ (λ f x. tt))
+      (λ address. free_behind l (RoutineFound (rom_in source) address p k) Writes (part l _ _ timing_refusal (λ f x. timing_fine f)) (writes_free l)))
+    where
+      timing_fine : (f : TimingFault) → IsFine IsDue (Unit {0}) (cause_of (timing_refusal f))
+      timing_fine (timing.NotFound obstacle) = tt
+      timing_fine timing.NoMemory = tt
+
   pub free : (loaded : Loaded) → Free loaded (HasOutcome loaded)
   free (request.Run run) =
       let l = request.Run run in free_behind l (StartComes run.start) _ (start_free l run.start) (λ s. show_free l (known_in run.start) s.edition s.start run.keys run.limit run.show)
@@ -444,22 +459,11 @@ module _ (given : RomsGiven) where
   free (request.Link message moves number) =
       let l = request.Link message moves number in
       free_behind l LinkRomsCome _ (part l _ _ rom_refusal (λ f x. rom_fine l f (links_never f x))) (λ _. ends_free l _ (λ bad. absurd (cc)))
-  free (request.Asm source isa raw) = text_free (request.Asm source isa raw) isa source (IsBytes isa raw)
-  free (request.Check source name isa) = ends_free (request.Check source name isa) _ (λ bad. tt)
-  free (request.List source isa) = text_free (request.List source isa) isa source (λ made text. IsListing isa (source_lines source) text)
+  free (request.Text verb file) = text_verb_free verb file
   free (request.Cycles source certificate exits) =
       let l = request.Cycles source certificate exits in
       free_behind l (SourceRom source) _ (assembled_free l source)
       (λ _. free_behind l (RoutineComes (rom_in source) certificate) _ (part l _ _ cert_refusal (λ f x. cert_fine l f)) (λ within. writes_free l _))
-  free (request.Timing source entry p k) =
-      let l = request.Timing source entry p k in
-      free_behind l (SourceRom source) _ (assembled_free l source)
-      (λ made. free_behind l (EntryComes made.made entry) _ (part l _ _ _ (λ f x. tt))
-      (λ address. free_behind l (RoutineFound (rom_in source) address p k) Writes (part l _ _ timing_refusal (λ f x. timing_fine f)) (writes_free l)))
-    where
-      timing_fine : (f : TimingFault) → IsFine IsDue (Unit {0}) (cause_of (timing_refusal f))
-      timing_fine (timing.NotFound obstacle) = tt
-      timing_fine timing.NoMemory = tt
   free (request.Safe code certificate edition) =
       let l = request.Safe code certificate edition in
       free_behind l (GameComes edition code) _ (game_free l edition code)

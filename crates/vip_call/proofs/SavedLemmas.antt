@@ -12,6 +12,7 @@ use Rattle.chip8_image.specs.Interpreters.{interpreter_of}
 use Rattle.rom_board.specs.Saved.{AgreeBefore, Joins, IsGoneOnWith, SavedJoins}
 use Rattle.rom_board.proofs.Joined.{file_dispatches}
 use Rattle.rom_board.proofs.Passed.{last_after, last_of_events}
+use Rattle.vip_byte.specs.Number.{most_cycles}
 use Rattle.vip_relation.specs.Follows.{Fits, last_dispatch}
 use Rattle.vip_relation.specs.State.{Start, VipState, begun, machine_of, state_after}
 use Rattle.vip_relation.specs.State.Start.{Reset, Saved}
@@ -26,12 +27,12 @@ use Rattle.vip_text.specs.declared.trace.TraceColumns.{TraceColumns}
 use Rattle.vip_debug.specs.Answers.{moves_until, pieces, place_after, at_start, written}
 use Rattle.vip_debug.specs.Fold.{echoed}
 use Rattle.vip_debug.specs.Behind.{AnswersAs, GoesOnBehind}
-use Rattle.vip_words.specs.Request.{most_cycles}
 use Rattle.vip_words.specs.Spoken.{Spoken}
 use Rattle.vip_words.specs.declared.debug_commands.Command.TheVariants.{Runs}
 use Rattle.vip_words.specs.declared.debug_commands.Running.TheVariants.{To}
 use Rattle.vip_words.specs.declared.request.Request.TheVariants as request
 use Rattle.vip_words.specs.declared.request.Show.{Show}
+use Rattle.vip_words.specs.declared.request.PlainShow.TheVariants.{State}
 use Rattle.vip_words.specs.declared.request.Show.TheVariants as show
 use Rattle.vip_tools.specs.Files.{Loaded, needed, script_files, show_files}
 use Rattle.vip_tools.specs.Judged.Verdict.{Given}
@@ -40,7 +41,7 @@ use Rattle.vip_tools.specs.Report.{end_report}
 use Rattle.vip_tools.specs.Status.{end_status}
 use Rattle.vip_tools.proofs.JudgedLemmas.{behind-each, same_value}
 use Rattle.vip_tools.specs.Code.{Known, nothing_known}
-use Rattle.vip_verbs.specs.Outcome.{known_in, HasOutcome, IsSavedIn, ShowComes, ending_where, events_in, events_shown, limit_from, ran, run_ending, run_of, saved_as, stopped_by}
+use Rattle.vip_verbs.specs.Outcome.{known_in, HasOutcome, IsSavedIn, ShowComes, ending_where, events_in, events_shown, limit_from, ran, ran_with, run_ending, run_of, saved_pieces, stopped_by}
 use Rattle.vip_call.specs.Saved.{Continues, GoesOn, GoesOnAsRun, IsSaved, SavesOne}
 use Rattle.vip_call.specs.Top.{Call, ContinuesSaved}
 use Rattle.vip_relation.proofs.Beginning.{begins-running}
@@ -147,7 +148,7 @@ module _ (joins : SavedJoins) (commands_behind : GoesOnBehind) where
           (same_pictures e s other later ∙ j.pictures
           ∙ ap₂ (λ a b. a ++ b) (sym (same_pictures e s other t)) (sym (same_pictures e (Saved file) other later)))
           j.ending;
-      state = ap₂ (saved_as later) j.ending j.file;
+      state = ap₂ (λ ending file. ran_with later ending (saved_pieces file)) j.ending j.file;
       answers = answers;
     }
       where
@@ -239,7 +240,7 @@ module _ (joins : SavedJoins) (commands_behind : GoesOnBehind) where
   module _ (e : Edition) (s : Start) (fits : Fits e s) (keys : Option (List ℕ)) (limit : ℕ) (output : Output) where
     saves_one :
         (script : List KeyEvent) → script_in keys ≡ Ok script → (f : Option (List ℕ)) → saved_file e (events_in e s script limit) ≡ f
-        → Given output ≡ saved_as limit (run_ending e s script limit) f → SavesOne e s keys limit output.pieces
+        → Given output ≡ ran_with limit (run_ending e s script limit) (saved_pieces f) → SavesOne e s keys limit output.pieces
     saves_one script reads None is h = absurd (cc)
     saves_one script reads (Some file) is h =
         let ending = run_ending e s script limit in
@@ -264,7 +265,7 @@ module _ (joins : SavedJoins) (commands_behind : GoesOnBehind) where
   is_saved :
       (known : Known) (e : Edition) (s : Start) → Fits e s → (keys : Option (List ℕ)) (limit : ℕ) (shown_as : Show (List ℕ)) (output : Output)
       → ShowComes known e s keys limit shown_as (Given output) → IsSaved e s keys limit shown_as output.pieces
-  is_saved known e s fits keys limit show.State output x =
+  is_saved known e s fits keys limit (show.Plain State) output x =
       saves_one e s fits keys limit output x.value x.gives (saved_file e (events_in e s x.value limit)) refl x.here.here
   is_saved known e s fits keys limit _ output x = tt
 

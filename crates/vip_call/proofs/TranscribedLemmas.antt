@@ -11,6 +11,7 @@ use Rattle.rom_law.specs.Language.{end_cycle}
 use Rattle.rom_board.specs.Laws.{EveryRun, EveryTime}
 use Rattle.rom_board.proofs.Passed.{before_point, events_to_stop, no_stop_before}
 use Rattle.chip8_image.specs.Interpreters.{interpreter_of}
+use Rattle.vip_byte.specs.Number.{most_cycles}
 use Rattle.vip_relation.specs.Follows.{Fits}
 use Rattle.vip_relation.specs.State.{Start, begun, machine_of}
 use Rattle.vip_relation.specs.State.Start.{Reset, Saved}
@@ -22,10 +23,10 @@ use Rattle.vip_text.specs.Endings.{Ending}
 use Rattle.vip_text.specs.StateFile.{shown}
 use Rattle.vip_show.specs.Output.{picture_pieces}
 use Rattle.vip_show.specs.StateOutput.{saved_file}
-use Rattle.vip_words.specs.Request.{most_cycles}
 use Rattle.vip_words.specs.Spoken.{Spoken}
 use Rattle.vip_words.specs.declared.request.Request.TheVariants as request
 use Rattle.vip_words.specs.declared.request.Show.{Show}
+use Rattle.vip_words.specs.declared.request.PlainShow.TheVariants as plain
 use Rattle.vip_words.specs.declared.request.Show.TheVariants as show
 use Rattle.vip_tools.specs.declared.status.Status.{Status}
 use Rattle.vip_tools.specs.declared.status.Status.TheVariants.{Done, Stopped as Stops, WriteFault}
@@ -36,7 +37,7 @@ use Rattle.vip_tools.specs.Report.{end_report}
 use Rattle.vip_tools.specs.Status.{end_status}
 use Rattle.vip_tools.proofs.JudgedLemmas.{same_value}
 use Rattle.vip_tools.specs.Code.{Known}
-use Rattle.vip_verbs.specs.Outcome.{known_in, HasOutcome, RunTo, ShowComes, debug_ending, events_in, events_shown, limit_from, ran, run_ending, run_of, saved_as}
+use Rattle.vip_verbs.specs.Outcome.{known_in, HasOutcome, RunTo, ShowComes, debug_ending, events_in, events_shown, limit_from, ran, ran_with, run_ending, run_of, saved_pieces}
 use Rattle.vip_call.specs.Commands.{AllAnswered}
 use Rattle.vip_call.specs.Transcribed.{IsShown, IsStateOf, RunLaw, Transcribed, TranscribesBy, all_points, first_cycle, in_time, is_run, of_language}
 use Rattle.vip_call.specs.Transcript.{ArePictures, GoesOn, Point, last_point, profile_of, summary_text, trace_text}
@@ -206,11 +207,11 @@ module _ (every : EveryRun) (from : FromAccepted) (saves : SavesShown) (law : Ru
   transcribed_state :
       (known : Known) (e : Edition) (s : Start) (fits : Fits e s) (keys : Option (List ℕ)) (limit : ℕ) (output : Output) (script : List KeyEvent)
       → script_in keys ≡ Ok script → (file : Option (List ℕ)) → saved_file e (events_in e s script limit) ≡ file
-      → Given output ≡ saved_as limit (run_ending e s script limit) file
-      → Transcribed law known e s keys limit show.State output.pieces output.status output.report
+      → Given output ≡ ran_with limit (run_ending e s script limit) (saved_pieces file)
+      → Transcribed law known e s keys limit (show.Plain plain.State) output.pieces output.status output.report
   transcribed_state known e s fits keys limit output script reads None saved is = absurd (cc)
   transcribed_state known e s fits keys limit output script reads (Some file) saved is =
-      told_run known e s fits keys limit show.State output script reads (file ∷ []) (run_ending e s script limit) ((λ few. state few), refl) is
+      told_run known e s fits keys limit (show.Plain plain.State) output script reads (file ∷ []) (run_ending e s script limit) ((λ few. state few), refl) is
     where
       state : limit ≤ most_cycles → IsStateOf e (last_point (all_points e s (points_shown e s script limit))) (file ∷ [])
       state few =
@@ -227,27 +228,27 @@ module _ (every : EveryRun) (from : FromAccepted) (saves : SavesShown) (law : Ru
   transcribed_as :
       (known : Known) (e : Edition) (s : Start) (fits : Fits e s) (keys : Option (List ℕ)) (limit : ℕ) (asked_show : Show (List ℕ)) (output : Output)
       → ShowComes known e s keys limit asked_show (Given output) → Transcribed law known e s keys limit asked_show output.pieces output.status output.report
-  transcribed_as known e s fits keys limit (show.Trace columns) output comes =
-      transcribed_run known e s fits keys limit (show.Trace columns) output _ _
+  transcribed_as known e s fits keys limit (show.Plain (plain.Trace columns)) output comes =
+      transcribed_run known e s fits keys limit (show.Plain (plain.Trace columns)) output _ _
       (λ script. (
         traced_is e columns (events_shown e s script limit) (events_in e s script limit)
             ∙ ap (λ ps. trace_text e columns (points_shown e s script limit) (last_point ps)) (all_are e s script limit),
         refl,
       ))
       comes
-  transcribed_as known e s fits keys limit show.Pictures output comes =
-      transcribed_run known e s fits keys limit show.Pictures output _ _
+  transcribed_as known e s fits keys limit (show.Plain plain.Pictures) output comes =
+      transcribed_run known e s fits keys limit (show.Plain plain.Pictures) output _ _
       (λ script. (pictures_are e s fits limit script, runs.pictures e s fits script limit, refl)) comes
   transcribed_as known e s fits keys limit (show.Commands text echo) output comes =
       transcribed_run known e s fits keys limit (show.Commands text echo) output _ _
       (λ script. rw comes.gives (answered e s fits limit known.labels script comes.value)) comes.here
-  transcribed_as known e s fits keys limit show.State output comes =
+  transcribed_as known e s fits keys limit (show.Plain plain.State) output comes =
       transcribed_state known e s fits keys limit output comes.value comes.gives (saved_file e (events_in e s comes.value limit)) refl comes.here.here
-  transcribed_as known e s fits keys limit show.Profile output comes =
-      transcribed_run known e s fits keys limit show.Profile output _ _
+  transcribed_as known e s fits keys limit (show.Plain plain.Profile) output comes =
+      transcribed_run known e s fits keys limit (show.Plain plain.Profile) output _ _
       (λ script. (profiled_is e (events_in e s script limit) ∙ ap (profile_of e) (all_are e s script limit), refl)) comes
-  transcribed_as known e s fits keys limit (show.Summary number) output comes =
-      transcribed_run known e s fits keys limit (show.Summary number) output _ _
+  transcribed_as known e s fits keys limit (show.Plain (plain.Summary number)) output comes =
+      transcribed_run known e s fits keys limit (show.Plain (plain.Summary number)) output _ _
       (λ script. (
         summed_is e number (windows_ended (over e s fits limit script) - windows_ended (first_cycle e s)) (interpreter_of e).rom (run_of e s script limit)
             (events_shown e s script limit) (events_in e s script limit) (pictures_are e s fits limit script).count

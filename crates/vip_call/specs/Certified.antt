@@ -10,7 +10,8 @@ use Rattle.cycle_check.specs.declared.Within.{Within}
 use Rattle.game_check.specs.Proof.{IsAccepted}
 use Rattle.game_check.specs.States.{NeverStops}
 use Rattle.chip8_image.specs.Interpreters.{interpreter_of}
-use Rattle.vip_words.specs.declared.request.Request.TheVariants.{Certify, Cycles, Safe, Timing}
+use Rattle.vip_words.specs.declared.request.Request.TheVariants.{Certify, Cycles, Safe, Text}
+use Rattle.vip_words.specs.declared.request.TextVerb.TheVariants.{Timing}
 use Rattle.vip_words.specs.declared.request.Entry.{Entry}
 use Rattle.vip_tools.specs.Certificates.{Assembled, entry_in, exits_asked, rom_in, routine_text}
 use Rattle.vip_tools.specs.Code.{GameComes}
@@ -57,7 +58,7 @@ pub record WritesCertificate (e : Edition) (game : List ℕ) (pieces : List (Lis
 -- what the output of a verb of certificates says: of a game, or of the one that a source gives
 abbrev pub Certifies : Loaded → List (List ℕ) → Type 0
 Certifies (Cycles source certificate exits) pieces = LeavesInTime source certificate exits pieces
-Certifies (Timing source entry p k) pieces = WritesTiming source entry p k pieces
+Certifies (Text (Timing entry p k) source) pieces = WritesTiming source entry p k pieces
 Certifies (Safe code certificate edition) pieces = Of (GameComes edition code) (λ game. IsSafe edition game)
 Certifies (Certify code edition) pieces = Of (GameComes edition code) (λ game. WritesCertificate edition game pieces)
 Certifies _ pieces = Unit {0}

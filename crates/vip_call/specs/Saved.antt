@@ -8,19 +8,20 @@ use Rattle.vip_relation.specs.State.{Start}
 use Rattle.vip_relation.specs.State.Start.{Saved}
 use Rattle.vip_text.specs.StateFile.{shown, IsAccepted}
 use Rattle.vip_text.specs.declared.trace.TraceColumns.{TraceColumns}
+use Rattle.vip_byte.specs.Number.{most_cycles}
 use Rattle.vip_tools.specs.Code.{nothing_known}
 use Rattle.vip_tools.specs.Files.{Loaded}
 use Rattle.vip_tools.specs.Outcome.{Outcome, Shown, script_in}
 use Rattle.vip_tools.specs.Judged.Verdict.{Given}
-use Rattle.vip_words.specs.Request.{most_cycles}
 use Rattle.vip_words.specs.Spoken.{Spoken}
 use Rattle.vip_words.specs.declared.debug_commands.Command.TheVariants.{Runs}
 use Rattle.vip_words.specs.declared.debug_commands.Running.TheVariants.{To}
+use Rattle.vip_words.specs.declared.request.PlainShow.TheVariants.{Pictures, State, Trace}
 use Rattle.vip_words.specs.declared.request.Request.TheVariants.{Run}
 use Rattle.vip_words.specs.declared.request.Show.{Show}
-use Rattle.vip_words.specs.declared.request.Show.TheVariants.{State}
+use Rattle.vip_words.specs.declared.request.Show.TheVariants.{Plain}
 use Rattle.vip_words.specs.declared.request.Start.TheVariants as beginning
-use Rattle.vip_verbs.specs.Outcome.{HasOutcome, OfRun, ShowComes, debugged, events_in, pictured, saved, traced}
+use Rattle.vip_verbs.specs.Outcome.{HasOutcome, OfRun, ShowComes, debugged, events_in, shown_by}
 
 -- one go comes to what came first and then to the rest, and it ends as the rest does
 abbrev pub IsJoined : (first rest whole : Outcome) → Type 0
@@ -33,10 +34,10 @@ IsJoined _ _ whole = ⊥
 pub record GoesOn (e : Edition) (s : Start) (file : List ℕ) (script : List KeyEvent) (limit : ℕ) : Type 0 where
   pub lines :
       (columns : TraceColumns)
-      → IsJoined (traced (record columns { screen = false }) e s script (shown file).cycle) (traced columns e (Saved file) script limit)
-      (traced columns e s script limit)
-  pub pictures : IsJoined (pictured e s script (shown file).cycle) (pictured e (Saved file) script limit) (pictured e s script limit)
-  pub state : saved e limit (events_in e s script limit) ≡ saved e limit (events_in e (Saved file) script limit)
+      → IsJoined (shown_by (Trace (record columns { screen = false })) e s script (shown file).cycle) (shown_by (Trace columns) e (Saved file) script limit)
+      (shown_by (Trace columns) e s script limit)
+  pub pictures : IsJoined (shown_by Pictures e s script (shown file).cycle) (shown_by Pictures e (Saved file) script limit) (shown_by Pictures e s script limit)
+  pub state : shown_by State e s script limit ≡ shown_by State e (Saved file) script limit
   pub answers :
       (labels : List (ℕ × List ℕ)) (echo : Option (List ℕ)) (commands : List Spoken)
       → let to : Spoken = record { command = Runs (To (shown file).cycle); echo = echo } in
@@ -68,7 +69,7 @@ pub record SavesOne (e : Edition) (s : Start) (keys : Option (List ℕ)) (limit 
   pub goes_on : limit ≤ most_cycles → GoesOnAsRun e s keys limit file
 
 abbrev pub IsSaved : Edition → Start → Option (List ℕ) → ℕ → Show (List ℕ) → List (List ℕ) → Type 0
-IsSaved e s keys limit State pieces = SavesOne e s keys limit pieces
+IsSaved e s keys limit (Plain State) pieces = SavesOne e s keys limit pieces
 IsSaved e s keys limit _ pieces = Unit {0}
 
 abbrev pub Continues : Loaded → List (List ℕ) → Type 0

@@ -12,7 +12,8 @@ use Rattle.vip_words.specs.Asked.{asked_by}
 use Rattle.vip_words.specs.Request.{Asked}
 use Rattle.vip_words.specs.Rules.{Word}
 use Rattle.vip_words.specs.declared.request.Request.{Request}
-use Rattle.vip_words.specs.declared.request.Request.TheVariants.{Asm, Certify, Check, Link, Timing}
+use Rattle.vip_words.specs.declared.request.Request.TheVariants.{Certify, Link, Text}
+use Rattle.vip_words.specs.declared.request.TextVerb.TheVariants.{Asm, Check, Timing}
 use Rattle.vip_tools.specs.declared.refusal.Kind.{Kind}
 use Rattle.vip_tools.specs.declared.refusal.Refusal.{Refusal}
 use Rattle.vip_tools.specs.declared.status.Status.{Status}
@@ -258,7 +259,7 @@ pub record Offers (call : Call) (asked : Asked) (files : FileMap) : Type 0 where
 
 -- a search is asked for, which may find nothing: what it then says is true of the game or of the source
 abbrev pub IsSearchShape : Request (Unit {0}) → Type 0
-IsSearchShape (Timing source entry p k) = Unit {0}
+IsSearchShape (Text (Timing entry p k) source) = Unit {0}
 IsSearchShape (Certify game edition) = Unit {0}
 IsSearchShape _ = ⊥
 
@@ -293,7 +294,7 @@ AreRefused asked contents =
 
 -- a source is asked to be checked
 abbrev pub IsCheckShape : Request (Unit {0}) → Type 0
-IsCheckShape (Check source name isa) = Unit {0}
+IsCheckShape (Text (Check name isa) source) = Unit {0}
 IsCheckShape _ = ⊥
 
 abbrev pub IsCheck : {N : Type 0} → Request N → Type 0
@@ -372,16 +373,16 @@ ContinuesSaved call =
 -- Where a source is checked, `asm` of it agrees, of its bytes and of their dump: it isn't refused exactly where no fault is told; and it is refused for the
 -- first fault that is told, by its line and its cause.
 pub record AgreesWithAsm (source : List ℕ) (isa : Isa) (status : Status) : Type 0 where
-  pub clean : status ≡ Done → (raw : Bool) (refused : Status) (report : List ℕ) → HasOutcome (Asm source isa raw) (Refused refused report) → ⊥
-  pub faulty : status ≡ BadSource → (raw : Bool) (pieces : List (List ℕ)) (done : Status) (report : List ℕ) → HasOutcome (Asm source isa raw) (Shown pieces done report) → ⊥
+  pub clean : status ≡ Done → (raw : Bool) (refused : Status) (report : List ℕ) → HasOutcome (Text (Asm isa raw) source) (Refused refused report) → ⊥
+  pub faulty : status ≡ BadSource → (raw : Bool) (pieces : List (List ℕ)) (done : Status) (report : List ℕ) → HasOutcome (Text (Asm isa raw) source) (Shown pieces done report) → ⊥
   pub first : (i : ℕ) (finding : Finding) → IsFirstTold isa (source_lines source) i finding
-      → (raw : Bool) → HasOutcome (Asm source isa raw) (Refused BadSource (bad_source (i + 1) finding.cause))
+      → (raw : Bool) → HasOutcome (Text (Asm isa raw) source) (Refused BadSource (bad_source (i + 1) finding.cause))
 
 abbrev pub ChecksSources : Call → Type 0
 ChecksSources call =
     (asked : Asked) (source name : List ℕ) (isa : Isa) (pieces : List (List ℕ)) (status : Status) (report : List ℕ)
-    → Asks call asked (Check source name isa)
-    → HasOutcome (Check source name isa) (Shown pieces status report)
+    → Asks call asked (Text (Check name isa) source)
+    → HasOutcome (Text (Check name isa) source) (Shown pieces status report)
     → AgreesWithAsm source isa status
 
 -- ---- what the output says of two boards that are joined

@@ -8,6 +8,7 @@ use Rattle.chip8_lang.specs.declared.view.Edition.TheVariants.{Usual}
 use Rattle.chip8_lang.specs.Editions.{memory_end, memory_start, random_cell, rows_of, screen_start, stack_top, variables}
 use Rattle.chip8_lang.specs.Places.{addresses, most_addresses, pixels}
 use Rattle.chip8_lang.specs.Timed.{Shown, shown_behind, timed_run}
+use Rattle.vip_byte.specs.Number.{most_cycles}
 use Rattle.vip_text.specs.Endings.{Ending}
 use Rattle.vip_text.specs.StateFile.{bytes_at, edition_byte}
 use Rattle.vip_relation.specs.State.{Start}
@@ -16,10 +17,10 @@ use Rattle.vip_words.specs.DebugGrammar.{commands_of}
 use Rattle.vip_words.specs.Spoken.{Spoken}
 use Rattle.vip_words.specs.declared.debug_commands.CommandFault.{CommandFault}
 use Rattle.vip_words.specs.declared.debug_commands.Speaks.TheVariants.{Chip8}
+use Rattle.vip_words.specs.declared.request.PlainShow.TheVariants.{Pictures, Profile, State, Summary, Trace}
 use Rattle.vip_words.specs.declared.request.Request.TheVariants.{Run}
 use Rattle.vip_words.specs.declared.request.Show.{Show}
-use Rattle.vip_words.specs.declared.request.Show.TheVariants.{Commands, Pictures, Profile, State, Summary, Trace}
-use Rattle.vip_words.specs.Request.{most_cycles}
+use Rattle.vip_words.specs.declared.request.Show.TheVariants.{Commands, Plain}
 use Rattle.vip_words.specs.declared.request.Start as asked
 use Rattle.vip_words.specs.declared.request.Start.TheVariants as beginning
 use Rattle.vip_tools.specs.Report.{end_report}
@@ -121,14 +122,14 @@ module _ (e : Edition) (s : Start) (points : List Point) where
   -- A run up to a limit, of whose code this is known, which has these points behind its start and is over so in cycle `over`, is shown so: these pieces are
   -- written, and this end is reported.
   abbrev pub IsShown : Known → ℕ → (List (List ℕ) → Type 0) → Ending → ℕ → Ending → Show (List ℕ) → List (List ℕ) → Type 0
-  IsShown known limit InTime ending over reported (Trace columns) pieces =
+  IsShown known limit InTime ending over reported (Plain (Trace columns)) pieces =
       (pieces ≡ trace_text e columns points (last_point all_points)) × (reported ≡ ending)
-  IsShown known limit InTime ending over reported Pictures pieces =
+  IsShown known limit InTime ending over reported (Plain Pictures) pieces =
       ArePictures e all_points (windows_ended (first_cycle e s)) (windows_ended over) pieces × InTime pieces × (reported ≡ ending)
   IsShown known limit InTime ending over reported (Commands text echo) pieces = Debugged limit ending over reported (commands_of Chip8 known.names echo limit text) pieces
-  IsShown known limit InTime ending over reported State pieces = (limit ≤ most_cycles → IsStateOf e (last_point all_points) pieces) × (reported ≡ ending)
-  IsShown known limit InTime ending over reported Profile pieces = (pieces ≡ profile_of e all_points) × (reported ≡ ending)
-  IsShown known limit InTime ending over reported (Summary number) pieces =
+  IsShown known limit InTime ending over reported (Plain State) pieces = (limit ≤ most_cycles → IsStateOf e (last_point all_points) pieces) × (reported ≡ ending)
+  IsShown known limit InTime ending over reported (Plain Profile) pieces = (pieces ≡ profile_of e all_points) × (reported ≡ ending)
+  IsShown known limit InTime ending over reported (Plain (Summary number)) pieces =
       (pieces ≡ summary_text e number (windows_ended over - windows_ended (first_cycle e s)) points (last_point all_points)) × (reported ≡ ending)
 
 -- ---- a command

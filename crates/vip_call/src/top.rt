@@ -1,7 +1,6 @@
 //! The one call that the program makes.
 
-ghost use Rattle.std.specs.Prelude.{◌≡◌, IfOk, map, string_bytes};
-ghost use Rattle.vip_words.specs.Request.{asked_of, InRange};
+ghost use Rattle.std.specs.Prelude.{◌≡◌, map, string_bytes};
 ghost use Rattle.vip_verbs.specs.Prepared.{IsReady, outcome_of};
 ghost use Rattle.vip_call.specs.Words.{Finishes, OpensWords, PerformsAnswer, UnderstoodAnswers, performed_status};
 ghost use Rattle.vip_call.specs.Top.{call_of, EveryCall, IsFinished, Promises};
@@ -21,8 +20,7 @@ use vip_words::{Request, WordsFail, read_words};
 
 /// What the words ask for.
 fn read_request<'a>(alloc: Global, words: &'a [String]) -> Result<Request<&'a str>, Refusal<'a>>
-    ensures words { UnderstoodAnswers (map string_bytes words.entry.now) result }
-    ensures range { IfOk result (λ request. InRange (asked_of request)) }
+    ensures { UnderstoodAnswers (map string_bytes words.entry.now) result }
 {
     match read_words(alloc, words) {
         Ok(request) => Ok(request),
