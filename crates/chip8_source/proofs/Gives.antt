@@ -8,8 +8,8 @@ use Rattle.asm_lex.specs.Expressions.{sum_in, number_in, written_value, is_here,
 use Rattle.asm_lex.specs.Lines.{parsed, has_bad_bytes, has_bad_name, entry_meaning, word_meaning, parsed_code}
 use Rattle.asm_lex.specs.Parts.{without_leading_blanks, without_trailing_blanks, operands_in}
 use Rattle.asm_lex.specs.Words.{directive_of, opcodes, mnemonic_at, opcode_named, coded, register_given, mnemonic_entry, entry_of, meaning_of, size_at}
-use Rattle.asm_core.specs.Encoding.{collected, values_of, instruction, encoded_parts}
-use Rattle.asm_core.specs.Layout.{placed, judged, laid_parts}
+use Rattle.asm_core.specs.Encoding.{collected, values_of, instruction}
+use Rattle.asm_core.specs.Layout.{placed, judged, laid_parts, encoded_parts}
 use Rattle.asm_core.specs.Names.{operand_value}
 use Rattle.asm_core.specs.declared.table.Cell.{Cell}
 use Rattle.asm_core.specs.Sources.{cell_before, source_lines}
