@@ -1,5 +1,5 @@
 -- A line in both passes: in pass 1 the value of its label and the address behind it, in pass 2 its bytes.
-use Rattle.std.specs.Prelude.{◌+◌, ◌-◌, ◌*◌, ◌/◌, ◌||◌, ◌&&◌, ◌==◌, ℕ, Bool, false, List, [], length, flat_map, replicate, nat_lt, nat_le, if◌then◌else◌, Option, None, Some, is_some, Result, Ok, Err}
+use Rattle.std.specs.Prelude.{◌+◌, ◌-◌, ◌*◌, ◌/◌, ◌||◌, ◌&&◌, ◌==◌, ℕ, Bool, false, List, length, flat_map, replicate, nat_lt, nat_le, if◌then◌else◌, Option, None, Some, is_some, Result, Ok, Err}
 use Rattle.std.specs.Option.{option_map_or}
 use Rattle.std.specs.Result.{result_map_both}
 use Rattle.std.specs.List.{list_any}
