@@ -1,8 +1,6 @@
 //! Runs that are cut: random games under random key scripts, up to a limit, saved there, and gone on with up to another one. What goes on has to be the
 //! rest of the trace in one go.
 
-ghost use Rattle.std.specs.Prelude.{◌≤◌};
-
 use crate::edition::EDITIONS;
 use crate::numbers::Numbers;
 use crate::runs::script_of;
@@ -12,7 +10,7 @@ use vip_keypad::Script;
 use vip_outside::MemSink;
 use vip_relation::Run;
 use vip_show::{show_saved, show_trace};
-use vip_text::{RunEnd, TIMED};
+use vip_text::{Limit, RunEnd, TIMED};
 
 /// How many games are cut, each in both editions.
 const GAMES: u32 = 200;
@@ -47,8 +45,8 @@ struct Cut<'a> {
     edition: Edition,
     game: &'a [u8],
     script: &'a Script,
-    first: u64,
-    last: u64,
+    first: Limit,
+    last: Limit,
 }
 
 /// What a cut run writes: the trace up to the first limit, the file, the trace of what goes on from it, and the trace in one go.
@@ -80,33 +78,25 @@ impl Numbers {
     }
 
     /// A limit.
-    fn limit(&mut self) -> u64
-        ensures { result ≤ 120_000 }
-    {
+    fn limit(&mut self) -> u64 {
         (u64::from(self.next()) * 65_536 + u64::from(self.next())) % LIMITS
     }
 }
 
 /// Writes the trace of the run up to a limit.
-fn trace(alloc: Global, cut: &Cut<'_>, limit: u64, out: &mut MemSink) -> anyhow::Result<RunEnd>
-    requires { limit ≤ 120_000 }
-{
+fn trace(alloc: Global, cut: &Cut<'_>, limit: Limit, out: &mut MemSink) -> anyhow::Result<RunEnd> {
     let mut run = Run::start_as(alloc, cut.edition, cut.game, cut.script)?;
     Ok(show_trace(&mut run, limit, TIMED, out)?)
 }
 
 /// Writes the file of the run at its last dispatch point up to the first limit.
-fn save(alloc: Global, cut: &Cut<'_>, out: &mut MemSink) -> anyhow::Result<Option<RunEnd>>
-    requires { cut.now.first ≤ 120_000 }
-{
+fn save(alloc: Global, cut: &Cut<'_>, out: &mut MemSink) -> anyhow::Result<Option<RunEnd>> {
     let mut run = Run::start_as(alloc, cut.edition, cut.game, cut.script)?;
     Ok(show_saved(&mut run, cut.first, out)?)
 }
 
 /// Writes the records of what goes on from a file up to the last limit.
-fn resume(alloc: Global, cut: &Cut<'_>, file: &[u8], out: &mut MemSink) -> anyhow::Result<RunEnd>
-    requires { cut.now.last ≤ 120_000 }
-{
+fn resume(alloc: Global, cut: &Cut<'_>, file: &[u8], out: &mut MemSink) -> anyhow::Result<RunEnd> {
     let mut run = Run::resume(alloc, file, cut.script)?;
     Ok(show_trace(&mut run, cut.last, TIMED, out)?)
 }
@@ -128,10 +118,7 @@ impl Written {
 
     /// Cuts a run. Answers whether its parts are the whole: the file was written at once, the run ended there as its trace did, and what goes on from
     /// the file is the rest of the trace in one go. Where there is nothing to save, no file is written.
-    fn compare(&mut self, alloc: Global, cut: &Cut<'_>, seen: &mut Seen) -> anyhow::Result<bool>
-        requires first { cut.now.first ≤ 120_000 }
-        requires last { cut.now.last ≤ 120_000 }
-    {
+    fn compare(&mut self, alloc: Global, cut: &Cut<'_>, seen: &mut Seen) -> anyhow::Result<bool> {
         let early = trace(alloc, cut, cut.first, &mut self.early)?;
         let saved = save(alloc, cut, &mut self.file)?;
         if self.early.calls() == 0 {
@@ -143,9 +130,7 @@ impl Written {
     }
 
     // Goes on from the file of a run up to its last limit. Answers whether that is the rest of the trace in one go.
-    fn goes_on(&mut self, alloc: Global, cut: &Cut<'_>, seen: &mut Seen) -> anyhow::Result<bool>
-        requires { cut.now.last ≤ 120_000 }
-    {
+    fn goes_on(&mut self, alloc: Global, cut: &Cut<'_>, seen: &mut Seen) -> anyhow::Result<bool> {
         let late = resume(alloc, cut, self.file.bytes(), &mut self.late)?;
         let whole = trace(alloc, cut, cut.last, &mut self.whole)?;
         seen.records = seen.records.saturating_add(u64::from(self.late.calls()));
@@ -158,10 +143,7 @@ impl Written {
 }
 
 /// Cuts a run. Answers whether its parts are the whole.
-fn is_whole(alloc: Global, cut: &Cut<'_>, seen: &mut Seen) -> anyhow::Result<bool>
-    requires first { cut.now.first ≤ 120_000 }
-    requires last { cut.now.last ≤ 120_000 }
-{
+fn is_whole(alloc: Global, cut: &Cut<'_>, seen: &mut Seen) -> anyhow::Result<bool> {
     let mut written = Written::new(alloc)?;
     written.compare(alloc, cut, seen)
 }
@@ -177,8 +159,8 @@ fn cut_game(alloc: Global, numbers: &mut Numbers, seen: &mut Seen) -> anyhow::Re
             edition,
             game: game.bytes(),
             script: &script,
-            first: one.min(other),
-            last: one.max(other),
+            first: Limit::up_to(one.min(other)),
+            last: Limit::up_to(one.max(other)),
         };
         seen.cut = seen.cut.saturating_add(1);
         if !is_whole(alloc, &cut, seen)? {

@@ -8,6 +8,7 @@ use chip8_lang::{Edition, StopRecord};
 use std::alloc::Global;
 use vip_keypad::Script;
 use vip_relation::{Met, Run};
+use vip_text::Limit;
 
 /// How many files are made.
 const FILES: u32 = 500;
@@ -169,7 +170,7 @@ fn go_on(run: &mut Run, seen: &mut Seen) {
     let mut from = State::of(&view);
     let mut cycle = view.cycle;
     for _ in 0..LIMIT {
-        match run.advance(LIMIT) {
+        match run.advance(Limit::up_to(LIMIT)) {
             Met::Dispatch => {
                 let view = run.view();
                 let to = State::of(&view);

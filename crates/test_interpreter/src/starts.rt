@@ -5,6 +5,7 @@ use chip8_lang::{Edition, Stop};
 use std::alloc::Global;
 use vip_keypad::Script;
 use vip_relation::{Met, StartFault, Vip};
+use vip_text::Limit;
 
 /// The limit of a run, in machine cycles.
 const LIMIT: u64 = 10_000;
@@ -59,7 +60,7 @@ fn write_start(rt: &HostRuntime, started: Result<Vip, StartFault>) -> anyhow::Re
 /// Writes the dispatch points of a run, and its stop.
 fn write_run(rt: &HostRuntime, vip: &mut Vip) -> anyhow::Result<()> {
     for _ in 0..MOST_EVENTS {
-        match vip.advance(LIMIT) {
+        match vip.advance(Limit::up_to(LIMIT)) {
             Met::Picture => {}
             Met::Dispatch => write_last(rt, vip)?,
             Met::Stopped(record) => {
