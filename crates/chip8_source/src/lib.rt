@@ -9,7 +9,7 @@
 //! comparison is what `Compares` in `specs/Compared.antt` says, which is the first fault of the assembly, else the least address that differs, else
 //! fine; by `laws::one_answer` there is one answer, want of memory aside. So a program that calls `check_image`, or `check_tall`, before it runs the
 //! image runs what the text says. By `laws::source_gives_rom` both answer that all is fine, want of memory aside: the text of each edition gives its
-//! ROM. `test_interpreter` shows that the text of a part gives bytes at the part's addresses alone.
+//! ROM. `test_machine` shows that the text of a part gives bytes at the part's addresses alone.
 //!
 //! The instructions are those of RCA's data sheet of the CDP1802; the assembly's language, the places, the font and the bounds are this project's
 //! profile.

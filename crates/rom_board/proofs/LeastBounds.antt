@@ -1,4 +1,4 @@
--- The least bounds hold, by arithmetic, and are taken, by computing the runs of games of `vectors/costs.txt`.
+-- The least bounds hold, by arithmetic, and are taken, by computing the runs of games of `costs.txt` of `test_machine`.
 use Rattle.std.proofs.Common.{◌≡◌, ℕ, zero, suc, ◌+◌, ◌-◌, ◌*◌, ◌/◌, ◌%◌, ◌<◌, ◌≤◌, refl, subst, arith, Bool, true, false, List, [], ◌∷◌, length, slice_index, slice_get, not, mul-le-mul, Option, Some, None}
 use Rattle.std.specs.Prelude.{◌==◌, ◌||◌, if◌then◌else◌, nat_le, nat_lt}
 use Rattle.std.specs.List.{list_all}

@@ -1,6 +1,0 @@
-use Rattle.std.proofs.Common.{◌≡◌}
-use Rattle.vip_cpu.specs.declared.cpu.Phase.TheVariants.{Boundary}
-use Rattle.test_processor.proofs.small_rom.follows.Given as goal
-
-abbrev pub invariant-loop-line : goal.invariant-loop-line
-invariant-loop-line l = l.board.phase ≡ Boundary

@@ -1,6 +1,0 @@
-use Rattle.std.proofs.Common.{◌≡◌}
-use Rattle.vip_cpu.specs.declared.cpu.Phase.TheVariants.{Boundary}
-use Rattle.test_processor.proofs.small_rom.run.Given as goal
-
-abbrev pub invariant-loop-move : goal.invariant-loop-move
-invariant-loop-move l = l.board.phase ≡ Boundary
