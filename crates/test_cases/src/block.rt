@@ -1,7 +1,6 @@
 //! The blocks of a case: a line, and the lines behind it that say more of it. The head of `data/cases.txt` says what they mean.
 
 use crate::pattern::number;
-use anyhow::{Context, bail};
 use hex::FromHex;
 
 /// A line with the lines behind it that say more of it.
@@ -79,47 +78,53 @@ pub fn split_block(text: &str) -> Option<(Block<'_>, &str)> {
     Some((block, text.get(length..)?))
 }
 
-/// Adds the bytes that hexadecimal words give.
-pub fn push_hex(bytes: &mut Vec<u8>, text: &str) -> anyhow::Result<()> {
+/// Adds the bytes that hexadecimal words give. False where one of them gives none, or there is no memory.
+pub fn push_hex(bytes: &mut Vec<u8>, text: &str) -> bool {
+    let mut all = true;
     for word in text.split_whitespace() {
         for digits in word.as_bytes().chunks(2) {
-            bytes.extend_from_slice(&<[u8; 1]>::from_hex(digits)?)?;
+            all = push_byte(bytes, digits) && all;
         }
     }
-    Ok(())
+    all
 }
 
-/// Adds the bytes of the lines behind another.
-pub fn push_pieces(bytes: &mut Vec<u8>, lines: &str) -> anyhow::Result<()> {
+fn push_byte(bytes: &mut Vec<u8>, digits: &[u8]) -> bool {
+    match <[u8; 1]>::from_hex(digits) {
+        Ok(byte) => bytes.extend_from_slice(&byte).is_ok(),
+        Err(_) => false,
+    }
+}
+
+/// Adds the bytes of the lines behind another. False where one of them gives none, or there is no memory.
+pub fn push_pieces(bytes: &mut Vec<u8>, lines: &str) -> bool {
+    let mut all = true;
     for line in lines.lines() {
         let (word, rest) = words_of(line);
-        push_piece(bytes, word, rest)?;
+        all = push_piece(bytes, word, rest) && all;
     }
-    Ok(())
+    all
 }
 
-fn push_piece(bytes: &mut Vec<u8>, word: &str, rest: &str) -> anyhow::Result<()> {
+fn push_piece(bytes: &mut Vec<u8>, word: &str, rest: &str) -> bool {
     match word {
-        "" => Ok(()),
+        "" => true,
         "hex" => push_hex(bytes, rest),
         "repeat" => push_repeated(bytes, rest),
-        "text" | "part" => push_text(bytes, rest, word == "text"),
-        _ => bail!("not bytes: {word}"),
+        "text" => bytes.extend_from_slice(rest.as_bytes()).is_ok() && bytes.push(b'\n').is_ok(),
+        "part" => bytes.extend_from_slice(rest.as_bytes()).is_ok(),
+        _ => false,
     }
 }
 
-fn push_text(bytes: &mut Vec<u8>, text: &str, ends: bool) -> anyhow::Result<()> {
-    bytes.extend_from_slice(text.as_bytes())?;
-    if ends {
-        bytes.push(b'\n')?;
+fn push_repeated(bytes: &mut Vec<u8>, text: &str) -> bool {
+    let (count, digits) = text.split_once(' ').unwrap_or(("", ""));
+    let Some(count) = number(count) else {
+        return false;
+    };
+    let mut all = true;
+    for _ in 0..count {
+        all = push_hex(bytes, digits) && all;
     }
-    Ok(())
-}
-
-fn push_repeated(bytes: &mut Vec<u8>, text: &str) -> anyhow::Result<()> {
-    let (count, digits) = text.split_once(' ').context("no bytes to repeat")?;
-    for _ in 0..number(count).context("no count")? {
-        push_hex(bytes, digits)?;
-    }
-    Ok(())
+    all
 }

@@ -4,16 +4,15 @@ use crate::block::{Block, push_hex, push_pieces, words_of};
 use crate::pattern::{Range, fits, number};
 use crate::run::Run;
 use crate::screen::{Pictures, Screen};
-use anyhow::Context;
 use std::alloc::Global;
 
-/// Whether what a block says is due came.
-pub fn is_met(alloc: Global, block: &Block<'_>, run: &Run) -> anyhow::Result<bool> {
+/// Whether what a block says is due came. A block that says something else is never met.
+pub fn is_met(alloc: Global, block: &Block<'_>, run: &Run) -> bool {
     match block.word {
         "err" => is_all(alloc, block.more, run.err.bytes()),
         "out" => is_all(alloc, block.more, run.out.bytes()),
         "from" => is_placed(alloc, block.rest, run.out.bytes()),
-        _ => is_said(block, run).context("not a case"),
+        _ => is_said(block, run).unwrap_or(false),
     }
 }
 
@@ -33,21 +32,21 @@ fn is_said(block: &Block<'_>, run: &Run) -> Option<bool> {
 }
 
 // These bytes are those of the lines.
-fn is_all(alloc: Global, lines: &str, came: &[u8]) -> anyhow::Result<bool> {
+fn is_all(alloc: Global, lines: &str, came: &[u8]) -> bool {
     let mut bytes = Vec::new(alloc);
-    push_pieces(&mut bytes, lines)?;
-    Ok(came == bytes.as_slice())
+    push_pieces(&mut bytes, lines) && came == bytes.as_slice()
 }
 
 // The output has these bytes from this one on, counted from 0.
-fn is_placed(alloc: Global, text: &str, out: &[u8]) -> anyhow::Result<bool> {
-    let (place, digits) = text.split_once(' ').context("no bytes")?;
-    let place = number(place).context("no place")?;
+fn is_placed(alloc: Global, text: &str, out: &[u8]) -> bool {
+    let (place, digits) = text.split_once(' ').unwrap_or((text, ""));
     let mut bytes = Vec::new(alloc);
-    push_hex(&mut bytes, digits)?;
-    match out.get(place as usize..) {
-        Some(behind) => Ok(behind.starts_with(&bytes)),
-        None => Ok(false),
+    if !push_hex(&mut bytes, digits) {
+        return false;
+    }
+    match number(place) {
+        Some(place) => out.get(place as usize..).unwrap_or(b"").starts_with(&bytes),
+        None => false,
     }
 }
 

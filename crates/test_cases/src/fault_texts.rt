@@ -1,11 +1,13 @@
-//! The text of each variant of each error type, beside the one that is due: its name, and behind a blank the length that it holds. The first fault
+//! The text that is due to each variant of each error type: its name, and behind a blank the length that it holds. The first fault
 //! in a line is the line and its cause, a byte of a ROM that differs both bytes and their address, and what holds another fault is that fault.
 
+use crate::counts::Counts;
 use asm_core::{AsmCause, AsmFault};
 use asm_lex::{LexFault, ValueFault};
 use chip8_source::ImageFault;
 use cycle_check::{CertCause, CertFault, TimingCause};
 use game_check::{ProofCause, ProofFault};
+use std::alloc::Global;
 use std::fmt::Display;
 use vip_byte::NumFault;
 use vip_keypad::{ScriptCause, ScriptFault};
@@ -181,52 +183,45 @@ const LINK_FAULTS: &[(&str, LinkFault)] = &[
     ("NoMemory", LinkFault::NoMemory),
 ];
 
-/// Writes what is due to each variant of a type, and then its text.
-fn write<T: Display>(rt: &HostRuntime, name: &str, faults: &[(&str, T)]) -> anyhow::Result<()> {
+/// Looks at the text of each variant of a type.
+fn add<T: Display>(
+    alloc: Global,
+    counts: &mut Counts<'static>,
+    faults: &'static [(&'static str, T)],
+) {
     for (due, fault) in faults {
-        println!(rt; "{name}, due {due}: {fault}")?;
+        let is_due = match format!(in alloc; "{fault}") {
+            Ok(text) => text.as_str() == *due,
+            Err(_) => false,
+        };
+        counts.add(is_due, due);
     }
-    Ok(())
 }
 
-/// Writes the texts of all error types.
-pub fn write_fault_texts(rt: &HostRuntime) -> anyhow::Result<()> {
-    write_of_sources(rt)?;
-    write_of_scripts(rt)?;
-    write_of_certificates(rt)?;
-    write_of_boards(rt)
-}
-
-fn write_of_sources(rt: &HostRuntime) -> anyhow::Result<()> {
-    write(rt, "NumFault", NUM_FAULTS)?;
-    write(rt, "ReadFail", READ_FAILS)?;
-    write(rt, "Failed", FAILED)?;
-    write(rt, "WordsFail", WORDS_FAILS)?;
-    write(rt, "LexFault", LEX_FAULTS)?;
-    write(rt, "ValueFault", VALUE_FAULTS)?;
-    write(rt, "AsmCause", ASM_CAUSES)?;
-    write(rt, "AsmFault", ASM_FAULTS)?;
-    write(rt, "ImageFault", IMAGE_FAULTS)
-}
-
-fn write_of_scripts(rt: &HostRuntime) -> anyhow::Result<()> {
-    write(rt, "ScriptCause", SCRIPT_CAUSES)?;
-    write(rt, "ScriptFault", SCRIPT_FAULTS)?;
-    write(rt, "CommandCause", COMMAND_CAUSES)?;
-    write(rt, "CommandFault", COMMAND_FAULTS)
-}
-
-fn write_of_certificates(rt: &HostRuntime) -> anyhow::Result<()> {
-    write(rt, "CertCause", CERT_CAUSES)?;
-    write(rt, "CertFault", CERT_FAULTS)?;
-    write(rt, "TimingCause", TIMING_CAUSES)?;
-    write(rt, "ProofCause", PROOF_CAUSES)?;
-    write(rt, "ProofFault", PROOF_FAULTS)
-}
-
-fn write_of_boards(rt: &HostRuntime) -> anyhow::Result<()> {
-    write(rt, "StateFault", STATE_FAULTS)?;
-    write(rt, "ResumeFault", RESUME_FAULTS)?;
-    write(rt, "StartFault", START_FAULTS)?;
-    write(rt, "LinkFault", LINK_FAULTS)
+/// Looks at the texts of all error types.
+pub fn try_fault_texts(alloc: Global) -> Counts<'static> {
+    let mut counts = Counts::NONE;
+    add(alloc, &mut counts, NUM_FAULTS);
+    add(alloc, &mut counts, READ_FAILS);
+    add(alloc, &mut counts, FAILED);
+    add(alloc, &mut counts, WORDS_FAILS);
+    add(alloc, &mut counts, LEX_FAULTS);
+    add(alloc, &mut counts, VALUE_FAULTS);
+    add(alloc, &mut counts, ASM_CAUSES);
+    add(alloc, &mut counts, ASM_FAULTS);
+    add(alloc, &mut counts, IMAGE_FAULTS);
+    add(alloc, &mut counts, SCRIPT_CAUSES);
+    add(alloc, &mut counts, SCRIPT_FAULTS);
+    add(alloc, &mut counts, COMMAND_CAUSES);
+    add(alloc, &mut counts, COMMAND_FAULTS);
+    add(alloc, &mut counts, CERT_CAUSES);
+    add(alloc, &mut counts, CERT_FAULTS);
+    add(alloc, &mut counts, TIMING_CAUSES);
+    add(alloc, &mut counts, PROOF_CAUSES);
+    add(alloc, &mut counts, PROOF_FAULTS);
+    add(alloc, &mut counts, STATE_FAULTS);
+    add(alloc, &mut counts, RESUME_FAULTS);
+    add(alloc, &mut counts, START_FAULTS);
+    add(alloc, &mut counts, LINK_FAULTS);
+    counts
 }

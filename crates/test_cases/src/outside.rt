@@ -1,8 +1,9 @@
 //! What the real sink does with a stream, and the real files with the files of the system: no case reaches them.
 
+use crate::counts::Counts;
 use std::io::{ErrorKind, Write};
 use std::{fs, io};
-use vip_outside::{Failed, Files, Host, Loaded, ReadFail, RealFiles, Sink, StdSink, Writer};
+use vip_outside::{Files, Host, ReadFail, RealFiles, Sink, StdSink, Writer};
 
 /// A file that these tests write, read and remove.
 const SCRATCH: &str = "scratch.bin";
@@ -38,55 +39,65 @@ impl Write for Slow {
     }
 }
 
-/// What a put of three bytes to a stream comes to, and then an empty one.
-fn put_to(slow: Slow) -> [Result<(), Failed>; 2] {
+/// Streams: how many bytes they take at each of how many writes, whether they can flush, and whether a put of three bytes to them is well.
+const STREAMS: &[(usize, u32, bool, bool)] = &[
+    (1, 3, true, true),
+    (1, 2, true, false),
+    (9, 1, true, true),
+    (0, 9, true, false),
+    (9, 9, false, false),
+];
+
+/// How many bytes of the longer file are read at most, and whether there are more.
+const READS: &[(usize, bool)] = &[
+    (0, true),
+    (2, true),
+    (4_096, true),
+    (9_999, true),
+    (10_000, false),
+    (20_000, false),
+];
+
+/// Whether a put of three bytes to a stream comes to what is due, and an empty one behind it is well.
+fn is_put(slow: Slow, due: bool) -> bool {
     let mut sink = StdSink::new(Writer::new(slow));
-    [sink.put(b"abc"), sink.put(b"")]
+    sink.put(b"abc").is_ok() == due && sink.put(b"").is_ok()
 }
 
-/// Writes what puts come to on streams that take few bytes, take few writes or fail to flush.
-pub fn write_streams(rt: &HostRuntime) -> anyhow::Result<()> {
-    for (step, writes, flushes) in [
-        (1, 3, true),
-        (1, 2, true),
-        (9, 1, true),
-        (0, 9, true),
-        (9, 9, false),
-    ] {
-        let [answer, empty] = put_to(Slow {
+/// Puts to streams that take few bytes, take few writes or fail to flush.
+pub fn try_streams() -> Counts<'static> {
+    let mut counts = Counts::NONE;
+    for &(step, writes, flushes, due) in STREAMS {
+        let slow = Slow {
             step,
             writes,
             flushes,
-        });
-        let can = if flushes { "can" } else { "can't" };
-        println!(rt;
-            "a stream that takes {step} bytes at each of {writes} writes and {can} flush: {answer:?}, {empty:?}"
-        )?;
+        };
+        counts.add(is_put(slow, due), "a put");
     }
-    Ok(())
+    counts
 }
 
-/// What puts of these pieces to a new file come to.
-fn put_pieces(rt: &HostRuntime, pieces: [&[u8]; 3]) -> anyhow::Result<[Result<(), Failed>; 3]> {
-    let mut sink = StdSink::new(Writer::new(fs::create(rt, SCRATCH)?));
-    let [first, second, third] = pieces;
-    Ok([sink.put(first), sink.put(second), sink.put(third)])
+/// Puts pieces to a new file. Answers whether all is well.
+fn put_pieces(rt: &HostRuntime, pieces: &[&[u8]]) -> bool {
+    let Ok(file) = fs::create(rt, SCRATCH) else {
+        return false;
+    };
+    let mut sink = StdSink::new(Writer::new(file));
+    let mut all = true;
+    for piece in pieces {
+        all = sink.put(piece).is_ok() && all;
+    }
+    all
 }
 
-/// What a read of the start of the file answers.
-fn read(rt: &HostRuntime, most: usize) -> Result<Loaded, ReadFail> {
+/// Whether a read of the start of the file answers the first bytes of these, as many as it may, and whether there are more.
+fn is_read(rt: &HostRuntime, most: usize, put: &[u8], more: bool) -> bool {
     let mut files = RealFiles::new(Host::new(rt));
-    files.read(rt.alloc(), SCRATCH, most)
-}
-
-/// How many bytes a read of the start of the file answers, whether they are as they were put, and whether there are more.
-fn read_put(rt: &HostRuntime, most: usize, put: &[u8]) -> Result<(usize, bool, bool), ReadFail> {
-    let loaded = read(rt, most)?;
-    Ok((
-        loaded.bytes.len(),
-        put.starts_with(&loaded.bytes),
-        loaded.more,
-    ))
+    match files.read(rt.alloc(), SCRATCH, most) {
+        Ok(loaded) => loaded.bytes.as_slice() == &put[..most.min(put.len())] && loaded.more == more,
+        Err(_) => false,
+    }
 }
 
 /// The bytes of the longer file.
@@ -98,53 +109,25 @@ fn long_piece() -> [u8; LONG] {
     piece
 }
 
-/// Writes what a put of a longer file comes to, and what reads of its start answer.
-fn write_long_file(rt: &HostRuntime) -> anyhow::Result<()> {
+/// Puts to a file and reads of its start: of a short one, of a longer one, and of none.
+pub fn try_files(rt: &HostRuntime) -> Counts<'static> {
+    let mut counts = Counts::NONE;
+    counts.add(put_pieces(rt, &[b"ab", b"", b"c"]), "puts to a file");
+    counts.add(is_read(rt, 2, b"abc", true), "a read of two bytes");
+    counts.add(is_read(rt, 3, b"abc", false), "a read of all bytes");
+    counts.add(is_read(rt, 9, b"abc", false), "a read of more bytes");
     let piece = long_piece();
-    let [answer, _, _] = put_pieces(rt, [&piece, b"", b""])?;
-    println!(rt; "put of {LONG} bytes to a file: {answer:?}")?;
-    write_long_reads(rt, &piece)
-}
-
-/// Writes how many bytes reads of the start of the longer file answer, whether they are as they were put, and whether there are more.
-fn write_long_reads(rt: &HostRuntime, piece: &[u8]) -> anyhow::Result<()> {
-    for most in [4_096, 9_999, 10_000, 20_000] {
-        let (count, same, more) = read_put(rt, most, piece)?;
-        println!(rt; "its first {most} bytes: {count}, as they were put: {same}, more: {more}")?;
+    counts.add(put_pieces(rt, &[&piece]), "a put to a longer file");
+    for &(most, more) in READS {
+        counts.add(is_read(rt, most, &piece, more), "a read of a longer file");
     }
-    Ok(())
+    counts.add(fs::remove_file(rt, SCRATCH).is_ok(), "a removal");
+    counts.add(is_absent(rt), "a read of no file");
+    counts
 }
 
-/// Writes what puts to a file come to.
-fn write_puts(rt: &HostRuntime) -> anyhow::Result<()> {
-    let [first, second, third] = put_pieces(rt, [b"ab", b"", b"c"])?;
-    for (piece, answer) in [("ab", first), ("", second), ("c", third)] {
-        println!(rt; "put of {piece:?} to a file: {answer:?}")?;
-    }
-    Ok(())
-}
-
-/// Writes what reads of the start of the file answer.
-fn write_reads(rt: &HostRuntime) -> anyhow::Result<()> {
-    for most in [0, 2, 3, 9] {
-        println!(rt; "its first {most} bytes: {:?}", read(rt, most))?;
-    }
-    Ok(())
-}
-
-/// Writes what a short file holds that was put piece by piece, and what reads of its start answer.
-fn write_short_file(rt: &HostRuntime) -> anyhow::Result<()> {
-    write_puts(rt)?;
-    let held = fs::read_to_string(rt, SCRATCH)?;
-    println!(rt; "the file holds {:?}", held.as_str())?;
-    write_reads(rt)
-}
-
-/// Writes what a short and a longer file of the system hold, and what a read answers when the file is gone.
-pub fn write_files(rt: &HostRuntime) -> anyhow::Result<()> {
-    write_short_file(rt)?;
-    write_long_file(rt)?;
-    fs::remove_file(rt, SCRATCH)?;
-    println!(rt; "when it is gone: {:?}", read(rt, 9))?;
-    Ok(())
+/// Whether there is no file to read.
+fn is_absent(rt: &HostRuntime) -> bool {
+    let mut files = RealFiles::new(Host::new(rt));
+    matches!(files.read(rt.alloc(), SCRATCH, 9), Err(ReadFail::Failed))
 }

@@ -2,7 +2,6 @@
 
 use crate::block::{Block, push_hex, push_pieces, split_block};
 use crate::pattern::number;
-use anyhow::Context;
 use std::alloc::{AllocError, Global};
 use vip_byte::Lines;
 use vip_call::vip_main;
@@ -42,53 +41,61 @@ impl Run {
         })
     }
 
-    /// Runs the program as a case says, with `--tall` behind its words where that is asked for.
-    pub fn make(&mut self, alloc: Global, case: &str, tall: bool) -> anyhow::Result<()> {
+    /// Runs the program as a case says, with `--tall` behind its words where that is asked for. False where it says no such thing, or there is no
+    /// memory for what it gives.
+    pub fn make(&mut self, alloc: Global, case: &str, tall: bool) -> bool {
+        let mut is_right = true;
         let mut rest = case;
         for _block in 0..case.len() {
             let Some((block, behind)) = split_block(rest) else {
                 break;
             };
-            self.add(alloc, &block)?;
+            is_right = self.add(alloc, &block) && is_right;
             rest = behind;
         }
         if tall {
-            self.add_words(alloc, "--tall")?;
+            is_right = self.add_word(alloc, "--tall") && is_right;
         }
         let words = self.words.as_slice();
         let status = vip_main(alloc, words, &mut self.files, &mut self.out, &mut self.err);
         self.status = status.number();
-        Ok(())
+        is_right
     }
 
     /// Takes a block of the case. One of what is due says nothing here.
-    fn add(&mut self, alloc: Global, block: &Block<'_>) -> anyhow::Result<()> {
+    fn add(&mut self, alloc: Global, block: &Block<'_>) -> bool {
         match block.word {
             "words" if !block.rest.is_empty() => self.add_words(alloc, block.rest),
-            "fails" => self.fail(block.rest).context("not a failure"),
+            "fails" => self.fail(block.rest).is_some(),
             "file" => self.add_file(alloc, block),
-            _ => Ok(()),
+            _ => true,
         }
     }
 
     // The words between single blanks, so that an empty one stands between two blanks.
-    fn add_words(&mut self, alloc: Global, text: &str) -> anyhow::Result<()> {
+    fn add_words(&mut self, alloc: Global, text: &str) -> bool {
+        let mut all = true;
         for word in text.split(' ') {
-            self.words.push(String::from_str(alloc, word)?)?;
-            if word == "--tall" {
-                self.height = 64;
-            }
+            all = self.add_word(alloc, word) && all;
         }
-        Ok(())
+        all
     }
 
-    fn add_file(&mut self, alloc: Global, block: &Block<'_>) -> anyhow::Result<()> {
+    fn add_word(&mut self, alloc: Global, word: &str) -> bool {
+        if word == "--tall" {
+            self.height = 64;
+        }
+        match String::from_str(alloc, word) {
+            Ok(word) => self.words.push(word).is_ok(),
+            Err(_) => false,
+        }
+    }
+
+    fn add_file(&mut self, alloc: Global, block: &Block<'_>) -> bool {
         let (name, digits) = block.rest.split_once(' ').unwrap_or((block.rest, ""));
         let mut bytes = Vec::new(alloc);
-        push_hex(&mut bytes, digits)?;
-        push_pieces(&mut bytes, block.more)?;
-        self.files.add(name, &bytes)?;
-        Ok(())
+        let is_right = push_hex(&mut bytes, digits) && push_pieces(&mut bytes, block.more);
+        is_right && self.files.add(name, &bytes).is_ok()
     }
 
     // Which read or put fails: `read N`, `out N keeps K` or `err N keeps K`.

@@ -1,66 +1,102 @@
-//! The reports that no words put out, and a number and exits that no words lead to.
+//! The reports that no words put out, and a game, a number and exits that no words show.
 
+use crate::counts::Counts;
 use asm_core::AsmCause;
 use chip8_source::ImageFault;
 use cycle_check::Exit;
-use vip_byte::read_decimal;
+use std::alloc::Global;
+use vip_byte::{NumFault, read_decimal};
 use vip_outside::MemSink;
-use vip_tools::{Refusal, put_refusal};
+use vip_tools::{Refusal, demo_game, put_refusal};
 
 /// Room for a report.
 const REPORT_ROOM: usize = 80;
 
-/// Writes the status and the report of each refusal that no words lead to, since the built-in source gives the ROM and memory is found.
-pub fn write_refusals(rt: &HostRuntime) -> anyhow::Result<()> {
-    let refusals = [
-        Refusal::Rom(ImageFault::BadRomSource {
-            line: 7,
-            cause: AsmCause::Undefined,
-        }),
-        Refusal::Rom(ImageFault::RomDiffers {
-            address: 0x80A1,
-            assembled: 0x0F,
-            image: 0xF0,
-        }),
-        Refusal::Rom(ImageFault::NoMemory),
-        Refusal::NoMemory,
-    ];
-    for refusal in refusals.iter() {
-        write_refusal(rt, refusal)?;
+/// Which addresses outside the ROM an exit leads to. Where a certificate is found each address of the ROM that is come to has a line, so that all
+/// exits lead out of it.
+const EXITS: &[(u16, bool)] = &[
+    (0x7FFF, true),
+    (0x8000, false),
+    (0x87FF, false),
+    (0x8800, true),
+];
+
+/// The ends of the demonstration game 0.
+const FIRST: &[u8] = &[0xF0, 0x29, 0x3D, 0x3C, 0x6A, 0x47, 0x89, 0x36];
+
+const LAST: &[u8] = &[0x12, 0x00, 0x12, 0x00];
+
+/// Looks at each refusal that no words lead to, since the built-in source gives the ROM and memory is found: its status and its report.
+pub fn try_refusals(alloc: Global) -> Counts<'static> {
+    let undefined = ImageFault::BadRomSource {
+        line: 7,
+        cause: AsmCause::Undefined,
+    };
+    let differs = ImageFault::RomDiffers {
+        address: 0x80A1,
+        assembled: 0x0F,
+        image: 0xF0,
+    };
+    let mut counts = Counts::NONE;
+    for (refusal, status, report) in [
+        (
+            Refusal::Rom(undefined),
+            8,
+            "vip: rom source line 7: Undefined\n",
+        ),
+        (
+            Refusal::Rom(differs),
+            9,
+            "vip: rom differs at 80A1: source 0F image F0\n",
+        ),
+        (Refusal::Rom(ImageFault::NoMemory), 11, "vip: no memory\n"),
+        (Refusal::NoMemory, 11, "vip: no memory\n"),
+    ] {
+        counts.add(is_told(alloc, &refusal, status, report), report);
     }
-    Ok(())
+    counts
 }
 
-fn write_refusal(rt: &HostRuntime, refusal: &Refusal) -> anyhow::Result<()> {
-    let mut sink = MemSink::new(rt.alloc(), REPORT_ROOM)?;
-    let _ = put_refusal(rt.alloc(), &mut sink, refusal);
-    println!(rt;
-        "status {}, report {}",
-        refusal.status().number(),
-        sink.bytes().escape_ascii()
-    )?;
-    Ok(())
+/// Whether a refusal has this status and this report.
+fn is_told(alloc: Global, refusal: &Refusal<'_>, status: u8, report: &str) -> bool {
+    let Ok(mut sink) = MemSink::new(alloc, REPORT_ROOM) else {
+        return false;
+    };
+    let told = put_refusal(alloc, &mut sink, refusal);
+    told.number() == status
+        && refusal.status().number() == status
+        && sink.bytes() == report.as_bytes()
 }
 
-/// Writes what a number comes to whose digits give a smaller one modulo 2 to the 64: no number of the program may be as large.
-pub fn write_number(rt: &HostRuntime) -> anyhow::Result<()> {
-    let digits = "99999999999999999999";
-    match read_decimal(digits.as_bytes(), u64::MAX) {
-        Ok(value) => println!(rt; "{digits}, at most {}: {value}", u64::MAX)?,
-        Err(fault) => println!(rt; "{digits}, at most {}: {fault}", u64::MAX)?,
-    }
-    Ok(())
+/// Looks at the ends of a demonstration game, which no words put out.
+pub fn try_game(alloc: Global) -> Counts<'static> {
+    let mut counts = Counts::NONE;
+    let is_right = match demo_game(alloc, 0) {
+        Ok(game) => game.len() == 3_232 && game.starts_with(FIRST) && game.ends_with(LAST),
+        Err(_) => false,
+    };
+    counts.add(is_right, "0");
+    counts
 }
 
-/// Writes which exits lead out of the ROM. Where a certificate is found each address of the ROM that is come to has a line, so that all do.
-pub fn write_exits(rt: &HostRuntime) -> anyhow::Result<()> {
-    for to in [0x7FFF, 0x8000, 0x87FF, 0x8800] {
+/// Looks at a number whose digits give a smaller one modulo 2 to the 64: no number of the program may be as large.
+pub fn try_number() -> Counts<'static> {
+    let mut counts = Counts::NONE;
+    let number = read_decimal(b"99999999999999999999", u64::MAX);
+    counts.add(matches!(number, Err(NumFault::TooLarge)), "20 digits");
+    counts
+}
+
+/// Looks at which exits lead out of the ROM.
+pub fn try_exits() -> Counts<'static> {
+    let mut counts = Counts::NONE;
+    for (to, leaves) in EXITS {
         let exit = Exit {
             address: 0x8000,
             bytes: [0; 3],
-            to: Some(to),
+            to: Some(*to),
         };
-        println!(rt; "an exit to {to:04X} leaves the ROM: {}", exit.leaves_rom())?;
+        counts.add(exit.leaves_rom() == *leaves, "an exit");
     }
-    Ok(())
+    counts
 }
