@@ -34,7 +34,7 @@ module _ {A B : Type 0} (f : A → B) where
   start_mosts : (s : Start A) → mosts (start_files (map_start f s)) ≡ mosts (start_files s)
   start_mosts (start.Game code edition) = ap (λ most. most ∷ []) (code_most (game_kind edition) (memory_size edition) code)
   start_mosts (start.State file) = refl
-  start_mosts (start.Demo number) = refl
+  start_mosts (start.Made made) = refl
 
   show_mosts : (s : Show A) → mosts (show_files (map_show f s)) ≡ mosts (show_files s)
   show_mosts (show.Commands file echo) = refl
@@ -114,12 +114,12 @@ other_files (x ∷ xs) = xs
 abbrev fill_start : Start (Unit {0}) → List (List ℕ) → Start (List ℕ)
 fill_start (start.Game code edition) xs = start.Game (with_file code (first_file xs)) edition
 fill_start (start.State file) xs = start.State (first_file xs)
-fill_start (start.Demo number) xs = start.Demo number
+fill_start (start.Made made) xs = start.Made made
 
 abbrev behind_start : Start (Unit {0}) → List (List ℕ) → List (List ℕ)
 behind_start (start.Game code edition) xs = other_files xs
 behind_start (start.State file) xs = other_files xs
-behind_start (start.Demo number) xs = xs
+behind_start (start.Made made) xs = xs
 
 abbrev fill_show : Show (Unit {0}) → List (List ℕ) → Show (List ℕ)
 fill_show (show.Commands file echo) xs = show.Commands (first_file xs) echo
@@ -177,12 +177,12 @@ code_filled kind most (code.Source file) = refl
 start_filled : (s : Start (List ℕ)) (ns : List (Needed (List ℕ))) → fill_start (map_start bare s) (files_of (start_files s ++ ns)) ≡ s
 start_filled (start.Game code edition) ns = ap (λ code. start.Game code edition) (code_filled (game_kind edition) (memory_size edition) code)
 start_filled (start.State file) ns = refl
-start_filled (start.Demo number) ns = refl
+start_filled (start.Made made) ns = refl
 
 start_left : (s : Start (List ℕ)) (ns : List (Needed (List ℕ))) → behind_start (map_start bare s) (files_of (start_files s ++ ns)) ≡ files_of ns
 start_left (start.Game code edition) ns = refl
 start_left (start.State file) ns = refl
-start_left (start.Demo number) ns = refl
+start_left (start.Made made) ns = refl
 
 show_filled : (s : Show (List ℕ)) (ns : List (Needed (List ℕ))) → fill_show (map_show bare s) (files_of (show_files s ++ ns)) ≡ s
 show_filled (show.Commands file echo) ns = refl

@@ -1,5 +1,5 @@
 -- Where a run begins that was loaded, its game fits into its edition's memory, and its file is accepted.
-use Rattle.std.proofs.Common.{◌≤◌, ◌<◌, ℕ, List, ◌++◌, length, slice_index, sym, subst, arith}
+use Rattle.std.proofs.Common.{◌≤◌, ◌<◌, ℕ, List, ◌++◌, length, slice_index, sym, subst}
 use Rattle.chip8_lang.specs.State.{memory_size}
 use Rattle.chip8_lang.specs.declared.view.Edition.{Edition}
 use Rattle.vip_relation.specs.Follows.{Fits}
@@ -14,7 +14,7 @@ use Rattle.vip_tools.specs.Judged.{bind}
 use Rattle.vip_tools.specs.Judged.Verdict.{Given}
 use Rattle.vip_tools.specs.Outcome.{Output}
 use Rattle.vip_tools.specs.Judged.{Judged}
-use Rattle.vip_tools.proofs.DemoLemmas.{length-game, bytes-game}
+use Rattle.vip_tools.proofs.DemoLemmas.{made-bytes, made-fits}
 use Rattle.vip_verbs.specs.Outcome.{OfRun, RunStart, StartComes}
 use Rattle.vip_call.specs.Transcribed.{From}
 use Rattle.vip_call.proofs.FilledLemmas.{AreGiven, IsGiven}
@@ -35,8 +35,8 @@ start_fits (beginning.Game code edition) others given s comes =
     subst (λ s. Fits s.edition s.start) (sym comes.here) (record { bytes = game.bytes; fits = game.fits })
 start_fits (beginning.State file) others given s comes =
     subst (Fits s.edition) (sym comes.saved) (record { bytes = given.0.bytes; accepted = comes.accepted })
-start_fits (beginning.Demo number) others given s comes =
-    subst (λ s. Fits s.edition s.start) (sym comes) (record { bytes = bytes-game number; fits = omega (arith, length-game number) })
+start_fits (beginning.Made made) others given s comes =
+    subst (λ s. Fits s.edition s.start) (sym comes) (record { bytes = made-bytes made; fits = made-fits made })
 
 -- what was shown of a run was shown of its edition and its start
 pub begun_so :
@@ -56,4 +56,4 @@ from_start Here (beginning.Game code edition) of =
     record { value = of.gives.value; gives = of.gives.gives; here = subst (λ s. Here s.edition s.start) of.gives.here of.here }
 from_start Here (beginning.State file) of =
     record { edition = of.value.edition; named = of.gives.accepted.edition; here = subst (Here of.value.edition) of.gives.saved of.here }
-from_start Here (beginning.Demo number) of = subst (λ s. Here s.edition s.start) of.gives of.here
+from_start Here (beginning.Made made) of = subst (λ s. Here s.edition s.start) of.gives of.here

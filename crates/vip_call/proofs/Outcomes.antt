@@ -242,7 +242,7 @@ start_once (beginning.Game code edition) =
 start_once (beginning.State file) =
     each_agree (λ s t. s ≡ t) (IsSavedIn file) (IsSavedIn file)
     (λ s t x y i. record { edition = one_edition s.edition t.edition file x.accepted y.accepted i; start = (x.saved ∙ sym y.saved) i })
-start_once (beginning.Demo number) = only_agree _
+start_once (beginning.Made made) = only_agree _
 
 program_once : (memory : Memory) (rom ram : List ℕ) (keys : Option (List ℕ)) (outcome : Seen → Outcome)
     → OneEnd (ProgramComes memory rom ram keys outcome) (ProgramComes memory rom ram keys outcome)
@@ -398,7 +398,7 @@ module _ (given : RomsGiven) where
     start_free : (start : asked.Start (List ℕ)) → FreePart loaded (StartComes start)
     start_free (beginning.Game code edition) = part_behind (GameComes edition code) _ (game_free edition code) (λ game. any_part _)
     start_free (beginning.State file) = any_part _
-    start_free (beginning.Demo number) = any_part _
+    start_free (beginning.Made made) = any_part _
 
     run_ends : (ending : Ending) → end_status ending ≡ BadSource → IsCheck loaded
     run_ends AtLimit bad = absurd (cc)

@@ -27,7 +27,7 @@ use Rattle.vip_tools.specs.Report.{end_report}
 use Rattle.vip_tools.specs.Status.{end_status}
 use Rattle.vip_tools.specs.declared.status.Status.{Status}
 use Rattle.vip_tools.specs.Code.{GameComes, Known}
-use Rattle.vip_tools.specs.Demo.{demo_game}
+use Rattle.vip_tools.specs.Demo.{made_game}
 use Rattle.vip_tools.specs.Files.{Loaded}
 use Rattle.vip_tools.specs.Judged.{Of}
 use Rattle.vip_tools.specs.Outcome.{script_in}
@@ -159,7 +159,7 @@ pub record FromFile (f : List ℕ) (Here : Edition → Type 0) : Type 0 where
 abbrev pub From : asked.Start (List ℕ) → (Edition → Start → Type 0) → Type 0
 From (beginning.Game code edition) Here = Of (GameComes edition code) (λ game. Here edition (Reset game))
 From (beginning.State file) Here = FromFile file (λ e. Here e (Saved file))
-From (beginning.Demo number) Here = Here Usual (Reset (demo_game number))
+From (beginning.Made made) Here = Here Usual (Reset (made_game made))
 
 -- what a request writes and reports, where it runs a game, by a law of runs
 abbrev pub TranscribesBy : RunLaw → Loaded → List (List ℕ) → Status → List ℕ → Type 0

@@ -6,7 +6,11 @@ use Rattle.std.proofs.lemmas.List.Elements.{All-nil, All-cons, All-head, All-tai
 use Rattle.std.specs.Prelude.{◌==◌, if◌then◌else◌}
 use Rattle.std.specs.List.{flat_map}
 use Rattle.chip8_lang.specs.Events.{numbers_from}
-use Rattle.vip_tools.specs.Demo.{random, next_random, with_byte, with_register, opcode_by, opcode_bytes, demo_game}
+use Rattle.chip8_lang.specs.State.{memory_size}
+use Rattle.chip8_lang.specs.declared.view.Edition.TheVariants.{Usual}
+use Rattle.vip_words.specs.declared.request.MadeGame.{MadeGame}
+use Rattle.vip_words.specs.declared.request.MadeGame.TheVariants.{Demo}
+use Rattle.vip_tools.specs.Demo.{random, next_random, with_byte, with_register, opcode_by, opcode_bytes, demo_game, made_game}
 
 -- the opcodes up to a random number, and their bytes
 abbrev pub opcodes_to : ℕ → ℕ → List ℕ
@@ -114,3 +118,10 @@ game_to-low seed n =
 
 pub bytes-game : (seed i : ℕ) → slice_index (demo_game seed) i < 256
 bytes-game seed i = subst (λ game. slice_index game i < 256) (game_to-whole seed) (game_to-low seed 1613 i)
+
+-- a game that the program makes fits, and is of bytes
+pub made-fits : (made : MadeGame) → length (made_game made) ≤ memory_size Usual
+made-fits (Demo number) = omega (arith, length-game number)
+
+pub made-bytes : (made : MadeGame) (i : ℕ) → slice_index (made_game made) i < 256
+made-bytes (Demo number) = bytes-game number

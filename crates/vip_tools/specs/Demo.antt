@@ -2,6 +2,8 @@
 use Rattle.std.specs.Prelude.{ℕ, zero, suc, ◌+◌, ◌*◌, ◌/◌, ◌%◌, ◌==◌, if◌then◌else◌, List, [], ◌∷◌, ◌++◌, map}
 use Rattle.std.specs.List.{flat_map}
 use Rattle.chip8_lang.specs.Events.{numbers_from}
+use Rattle.vip_words.specs.declared.request.MadeGame.{MadeGame}
+use Rattle.vip_words.specs.declared.request.MadeGame.TheVariants.{Demo}
 
 -- a linear congruence modulo 2 to the 32; number 0 of a series is its seed
 abbrev pub next_random : ℕ → ℕ
@@ -38,3 +40,7 @@ opcode_bytes opcode = opcode / 256 ∷ opcode % 256 ∷ []
 
 unfoldable pub demo_game : ℕ → List ℕ
 demo_game seed = flat_map opcode_bytes (demo_opcodes seed)
+
+-- a game that the program makes
+abbrev pub made_game : MadeGame → List ℕ
+made_game (Demo number) = demo_game number

@@ -117,7 +117,7 @@ module _ {N : Type 0} where
   abbrev pub start_files : Beginning N → List (Needed N)
   start_files (start.Game game edition) = game_code edition game ∷ []
   start_files (start.State state) = state_file state ∷ []
-  start_files (start.Demo number) = []
+  start_files (start.Made made) = []
 
   abbrev pub show_files : Show N → List (Needed N)
   show_files (show.Commands commands echo) = commands_file commands ∷ []

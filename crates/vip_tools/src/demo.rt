@@ -1,9 +1,12 @@
 //! The demonstration games.
 
-ghost use Rattle.std.specs.Prelude.{◌≡◌, IfOk, length};
-ghost use Rattle.vip_tools.specs.Demo.{demo_game, next_random, opcode_by};
+ghost use Rattle.std.specs.Prelude.{◌≡◌, ◌≤◌, IfOk, length};
+ghost use Rattle.chip8_lang.specs.State.{memory_size};
+ghost use Rattle.chip8_lang.specs.declared.view.Edition.TheVariants.{Usual};
+ghost use Rattle.vip_tools.specs.Demo.{demo_game, made_game, next_random, opcode_by};
 
 use std::alloc::{AllocError, Global};
+use vip_words::MadeGame;
 
 /// The opcodes of a game by random numbers.
 const RANDOM_OPCODES: u32 = 1613;
@@ -56,4 +59,14 @@ pub fn demo_game(alloc: Global, number: u32) -> Result<Vec<u8>, AllocError>
     }
     game.extend_from_slice(&[0x12, 0x00, 0x12, 0x00])?;
     Ok(game)
+}
+
+/// A game that the program makes, which fits into the game memory of the usual edition.
+pub fn made_game(alloc: Global, made: MadeGame) -> Result<Vec<u8>, AllocError>
+    ensures game { IfOk result (λ game. game.items ≡ made_game made) }
+    ensures size { IfOk result (λ game. length game.items ≤ memory_size Usual) }
+{
+    match made {
+        MadeGame::Demo(number) => demo_game(alloc, number),
+    }
 }

@@ -31,7 +31,7 @@ mod tools;
 
 pub use certificates::{certify, cycles, safe, timing};
 pub use code::{Image, MarkedGame, MarkedImage, Marks, game, marked_game, marked_program};
-pub use demo::demo_game;
+pub use demo::{demo_game, made_game};
 pub use ended::Ended;
 pub use fault::PerformFault;
 pub use files::game_kind;

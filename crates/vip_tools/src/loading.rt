@@ -45,7 +45,7 @@ fn load_start<'a, F: Files>(
             let file = open_file(alloc, files, &state_file(file))?;
             Ok(Start::State(file))
         }
-        Start::Demo(number) => Ok(Start::Demo(number)),
+        Start::Made(made) => Ok(Start::Made(made)),
     }
 }
 

@@ -52,7 +52,7 @@ use Rattle.vip_tools.specs.declared.status.Status.TheVariants.{NoDispatch, Done}
 use Rattle.vip_tools.specs.Certificates.{CertifyComes, CyclesComes, SafeComes, TimingComes}
 use Rattle.asm_lex.specs.declared.shape.Isa.TheVariants.{Chip8 as Chip8Words}
 use Rattle.vip_tools.specs.Code.{GameComes, Known, known_of, nothing_known}
-use Rattle.vip_tools.specs.Demo.{demo_game}
+use Rattle.vip_tools.specs.Demo.{made_game}
 use Rattle.vip_tools.specs.Help.{help_text, version_text}
 use Rattle.vip_tools.specs.Judged.{Judged, Of, bind, each, judged, only}
 use Rattle.vip_tools.specs.Judged.Verdict.{Refused}
@@ -95,12 +95,12 @@ pub record IsSavedIn (file : List ℕ) (s : RunStart) : Type 0 where
   pub accepted : IsAccepted s.edition file
   pub saved : s.start ≡ Saved file
 
--- With a game, in the edition that is asked for, by what comes of its code; from an accepted file of a saved state; with the demonstration game of a number,
--- in the usual edition. A file with a fault was refused when it was read.
+-- With a game, in the edition that is asked for, by what comes of its code; from an accepted file of a saved state; with a game that the program makes, in the
+-- usual edition. A file with a fault was refused when it was read.
 abbrev pub StartComes : asked.Start (List ℕ) → Judged RunStart
 StartComes (beginning.Game code edition) = bind (GameComes edition code) (λ game. only (record { edition = edition; start = Reset game }))
 StartComes (beginning.State file) = each (IsSavedIn file)
-StartComes (beginning.Demo number) = only (record { edition = Usual; start = Reset (demo_game number) })
+StartComes (beginning.Made made) = only (record { edition = Usual; start = Reset (made_game made) })
 
 -- what is known of the code with which a run begins
 abbrev pub known_in : asked.Start (List ℕ) → Known

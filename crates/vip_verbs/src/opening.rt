@@ -22,7 +22,7 @@ use vip_keypad::Script;
 use vip_relation::{ResumeFault, Run, StartFault};
 use vip_show::Profile;
 use vip_text::Limit;
-use vip_tools::{Marks, Refusal, demo_game, game_kind, marked_game, read_debugging, read_keys};
+use vip_tools::{Marks, Refusal, game_kind, made_game, marked_game, read_debugging, read_keys};
 use vip_words::{PlainShow, RunRequest, Show, Speaks, Start};
 
 /// Compares an edition's ROM with its built-in source.
@@ -115,8 +115,8 @@ fn read_start<'a>(alloc: Global, start: Start<Vec<u8>>) -> Result<Opened, Refusa
             beginning: Beginning::Saved(file),
             marks: Marks::none(alloc),
         }),
-        Start::Demo(number) => {
-            let game = demo_game(alloc, number)?;
+        Start::Made(made) => {
+            let game = made_game(alloc, made)?;
             Ok(Opened {
                 beginning: Beginning::Reset {
                     game,

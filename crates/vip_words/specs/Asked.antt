@@ -22,6 +22,7 @@ use Rattle.vip_words.specs.declared.request.Code.TheVariants.{Bytes, Source}
 use Rattle.vip_words.specs.declared.request.BuiltIn.TheVariants.{Interpreter, Sender, Receiver}
 use Rattle.vip_words.specs.declared.request.Entry.{Entry}
 use Rattle.vip_words.specs.declared.request.Entry.TheVariants.{Address, Name}
+use Rattle.vip_words.specs.declared.request.MadeGame.TheVariants.{Demo}
 use Rattle.vip_words.specs.declared.request.Memory.TheVariants.{Rom, Ram}
 use Rattle.vip_words.specs.declared.request.OwnText.TheVariants as own
 use Rattle.vip_words.specs.declared.request.PlainShow.TheVariants.{Trace, Pictures, State, Profile, Summary}
@@ -172,7 +173,7 @@ resume_by _ given = None
 abbrev pub demo_by : List Word → Option Asked
 demo_by (number ∷ cycles ∷ []) =
     option_and_then
-    (λ n. option_map (λ c. request.Run (record { start = start.Demo n; keys = None; limit = c; show = show.Plain (Summary n) })) (cycles_of cycles))
+    (λ n. option_map (λ c. request.Run (record { start = start.Made (Demo n); keys = None; limit = c; show = show.Plain (Summary n) })) (cycles_of cycles))
     (seed_of number)
 demo_by _ = None
 

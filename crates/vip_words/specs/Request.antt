@@ -25,7 +25,7 @@ module _ {A B : Type 0} (f : A → B) where
   abbrev pub map_start : Start A → Start B
   map_start (start.Game game edition) = start.Game (map_code game) edition
   map_start (start.State file) = start.State (f file)
-  map_start (start.Demo number) = start.Demo number
+  map_start (start.Made made) = start.Made made
 
   abbrev pub map_show : Show A → Show B
   map_show (show.Commands file echo) = show.Commands (f file) echo

@@ -54,7 +54,7 @@ pub use given::WordsFail;
 pub use moves::Moves;
 pub use place::Place;
 pub use request::{
-    BuiltIn, Code, Entry, EntryName, FileName, Memory, OwnText, PlainShow, ProgramRequest,
-    ProgramShow, Request, RunRequest, Show, Start, TextVerb, read_words,
+    BuiltIn, Code, Entry, EntryName, FileName, MadeGame, Memory, OwnText, PlainShow,
+    ProgramRequest, ProgramShow, Request, RunRequest, Show, Start, TextVerb, read_words,
 };
 pub use table::{Row, VERBS, Verb, about, with_value};

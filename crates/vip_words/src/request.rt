@@ -164,7 +164,14 @@ pub enum Start<N> {
     Game { code: Code<N>, edition: Edition },
     /// At a saved state, whose edition counts.
     State(N),
-    /// At a reset, with the demonstration game of a number.
+    /// At a reset, with a game that no file holds.
+    Made(MadeGame),
+}
+
+/// A game that the program makes.
+#[derive(Clone, Copy)]
+pub enum MadeGame {
+    /// The demonstration game of a number.
     Demo(u32),
 }
 
@@ -534,7 +541,7 @@ fn demo_request<'a>(given: &Given<'a>) -> Option<Request<&'a str>>
     let number = read_seed(number)?;
     let limit = Limit::read(cycles.as_bytes())?;
     Some(Request::Run(RunRequest {
-        start: Start::Demo(number),
+        start: Start::Made(MadeGame::Demo(number)),
         keys: None,
         limit,
         show: Show::Plain(PlainShow::Summary(number)),

@@ -34,5 +34,5 @@ returns-in_err-file-in-State g c =
 pub returns-in_ok-file-in-State : goal.returns-in_ok-file-in-State
 returns-in_ok-file-in-State g c = rw c.in-State.is (refl, loads-one _ _ _ _ c.state_file.ensures c.in_ok-file-in-State.file c.in_ok-file-in-State.ensures)
 
-pub returns-in-Demo : goal.returns-in-Demo
-returns-in-Demo g c = rw c.in-Demo.is (refl, loads-none _)
+pub returns-in-Made : goal.returns-in-Made
+returns-in-Made g c = rw c.in-Made.is (refl, loads-none _)
