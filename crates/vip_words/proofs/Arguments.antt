@@ -6,6 +6,7 @@ use Rattle.vip_words.specs.Arguments.{argument_rule}
 use Rattle.vip_words.specs.Command.{app_with, command_app, flag_rule, keys_rule, place_names, place_rule}
 use Rattle.vip_words.specs.Rules.{every_flag}
 use Rattle.vip_words.specs.declared.command.Argument.{Argument}
+use Rattle.vip_words.specs.declared.command.TheConstants.{OPTIONS}
 
 -- every option of the program, and every positional word
 abbrev pub every_rule : List Rule
@@ -26,7 +27,7 @@ next_argument name arguments count i d are within =
     ∙ ap (app_with name) (sym (take_more every_rule i (argument_rule d) among))
 
 -- all options, and so many positional words
-as_many : (places : ℕ) → places ≤ 4 → take (15 + places) every_rule ≡ keys_rule ∷ map flag_rule every_flag ++ map place_rule (take places place_names)
+as_many : (places : ℕ) → places ≤ 4 → take (OPTIONS + places) every_rule ≡ keys_rule ∷ map flag_rule every_flag ++ map place_rule (take places place_names)
 as_many zero few = refl
 as_many (suc zero) few = refl
 as_many (suc (suc zero)) few = refl
@@ -35,10 +36,10 @@ as_many (suc (suc (suc (suc zero)))) few = refl
 as_many (suc (suc (suc (suc (suc places))))) few = absurd (omega arith)
 
 -- all the arguments were gone through
-pub all_arguments : (name : Text) (arguments : List Argument) (places i : ℕ) → places ≤ 4 → 15 + places ≤ length arguments
-    → length (take (15 + places) arguments) ≤ i → i ≤ length (take (15 + places) arguments)
+pub all_arguments : (name : Text) (arguments : List Argument) (places i : ℕ) → places ≤ 4 → OPTIONS + places ≤ length arguments
+    → length (take (OPTIONS + places) arguments) ≤ i → i ≤ length (take (OPTIONS + places) arguments)
     → app_with name (take i every_rule) ≡ command_app name places
 all_arguments name arguments places i few fits from upto =
-    let counted = length-take (15 + places) arguments in
-    let all : i ≡ 15 + places = omega (arith, counted, fits, from, upto) in
+    let counted = length-take (OPTIONS + places) arguments in
+    let all : i ≡ OPTIONS + places = omega (arith, counted, fits, from, upto) in
     ap (λ n. app_with name (take n every_rule)) all ∙ ap (app_with name) (as_many places few)

@@ -52,8 +52,8 @@ const ARGUMENTS: [Argument; 19] = [
     Argument::Place(FOURTH),
 ];
 
-/// How many of the arguments are options.
-const OPTIONS: usize = 15;
+/// How many of the arguments are options: all but the positional words.
+const OPTIONS: usize = ARGUMENTS.len() - 4;
 
 impl Argument {
     // The argument as `clap` gets it.

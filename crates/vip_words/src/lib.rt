@@ -25,7 +25,7 @@
 //! | an address is hexadecimal and at most FFFF, with `--chip8` from 200 to FFF | `src/place.rt` |
 //! | where a routine is entered is an address of one to four hexadecimal digits, and else a name of at most 32 bytes, always behind `:` | `src/request.rt` |
 //! | the program counter and the counter of a routine are two registers, each one hexadecimal digit | `src/request.rt` |
-//! | a program has one of `--rom` and `--ram`, and none of `--tall`, `--state`, `--screen`, `--words` and `--at` | `src/request.rt` |
+//! | a program has one of `--rom` and `--ram`, and no option that speaks of a game or its states (`GAME_FLAGS`) | `src/request.rt` |
 //! | a saved state, by `--state`, has its own edition and is no source: `--tall` and `--asm` are refused with it | `src/request.rt` |
 //! | `source` has at most one of `--tall`, `--sender` and `--receiver` | `src/request.rt` |
 //!
