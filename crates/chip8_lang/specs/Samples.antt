@@ -1,5 +1,6 @@
 -- The cases that the examples compute.
-use Rattle.std.specs.Prelude.{ℕ, Bool, List, [], ◌∷◌, slice_index}
+use Rattle.std.specs.Prelude.{ℕ, ◌+◌, ◌-◌, ◌/◌, ◌%◌, ◌==◌, ◌&&◌, Bool, true, false, List, [], ◌∷◌, slice_index}
+use Rattle.machine.specs.Keys.{Event}
 use Rattle.chip8_lang.specs.State.{Lang, first}
 use Rattle.chip8_lang.specs.Step.{step}
 use Rattle.chip8_lang.specs.Step.KeyInput.{Nothing}
@@ -29,3 +30,40 @@ cycle_of Never = (0, 0)
 
 abbrev pub next_cycle : ℕ → List ℕ → ℕ × ℕ
 next_cycle t game = cycle_of (next_point Usual [] 10000 t (first Usual game))
+
+-- ---- times
+
+-- a state at 0200 behind which this opcode comes, with I, V0 to VD 0, VE 01 and VF FF, 5 in the delay timer, 7 in the sound timer and 0300 on the stack
+abbrev pub state_with : ℕ → ℕ → Lang
+state_with i opcode = record (sample (opcode / 256 ∷ opcode % 256 ∷ [])) { i = i; stack = 0x300 ∷ []; dt = 5; st = 7 }
+
+-- in which cycle the next point comes behind one in a cycle
+abbrev pub cycle_behind : ℕ → List Event → Lang → ℕ
+cycle_behind t script s = (cycle_of (next_point Usual script 10000 t s)).0
+
+-- with this I each of these opcodes takes so many main cycles, from cycle 56 on
+abbrev pub take : ℕ → List (ℕ × ℕ) → Bool
+take i [] = true
+take i (row ∷ rows) = (cycle_behind 56 [] (state_with i row.0) == 56 + row.1) && take i rows
+
+-- The display wait: prepared in so many main cycles, the opcode waits for the interrupt in cycle 1092 where they are over by then, and else for the next. It goes
+-- on a frame later then, and makes so many main cycles more.
+abbrev pub wait : ℕ → List (ℕ × ℕ × ℕ) → Bool
+wait i [] = true
+wait i (row ∷ rows) =
+    (cycle_behind (1092 - row.1) [] (state_with i row.0) == 2938 + row.2)
+    && (cycle_behind (1093 - row.1) [] (state_with i row.0) == 6606 + row.2)
+    && wait i rows
+
+-- key 0 is down from one cycle to before another
+abbrev pub press : ℕ → ℕ → ℕ → List Event
+press key from to = record { cycle = from; key = key; down = true } ∷ record { cycle = to; key = key; down = false } ∷ []
+
+-- the state behind an opcode whose main cycles go over the interrupt in cycle 1092
+abbrev pub state_of_next : Next → Lang
+state_of_next (Dispatch cycle s) = s
+state_of_next (Stopped cycle s stop) = s
+state_of_next Never = first Usual []
+
+abbrev pub state_behind : ℕ → ℕ → Lang
+state_behind t opcode = state_of_next (next_point Usual [] 10000 t (state_with 0x300 opcode))

@@ -179,20 +179,20 @@ module _ (e : Edition) (script : List Event) (limit : ℕ) where
       Dispatch (later (woken (ended t k)) (behind_wait e (instr_at s) s)) (step e Nothing (ticks (interrupts t (k - 1) + 1) s))
 
   -- FX0A: key j mod 16 was down as it was looked at j turns of 14 main cycles later than the first, and up i looks later
-  abbrev pub let_go : ℕ → Lang → ℕ → Option ℕ → Next
-  let_go t s j None = Never
-  let_go t s j (Some i) = ran t s (Chosen (j % 16)) (126 + 14 * j + 2 * i)
+  abbrev pub let_go : ℕ → ℕ → Lang → ℕ → Option ℕ → Next
+  let_go x t s j None = Never
+  let_go x t s j (Some i) = let key = Chosen (j % 16) in ran t s key (cycles e (WaitKey x) key s + 14 * j + 2 * i)
 
-  abbrev pub pressed : ℕ → Lang → Option ℕ → Next
-  pressed t s None = Never
-  pressed t s (Some j) = let_go t s j (first_from limit (λ i. not (keys_seen t (116 + 14 * j + 2 * i) (j % 16))) 0)
+  abbrev pub pressed : ℕ → ℕ → Lang → Option ℕ → Next
+  pressed x t s None = Never
+  pressed x t s (Some j) = let_go x t s j (first_from limit (λ i. not (keys_seen t (116 + 14 * j + 2 * i) (j % 16))) 0)
 
   abbrev pub after_instr : Instr → ℕ → Lang → Next
   after_instr Clear t s = waited t s
   after_instr (Draw x y n) t s = waited t s
   after_instr (SkipDown x) t s = let key = Held (keys_seen t 90 (variable s x % 16)) in ran t s key (cycles e (SkipDown x) key s)
   after_instr (SkipUp x) t s = let key = Held (keys_seen t 96 (variable s x % 16)) in ran t s key (cycles e (SkipUp x) key s)
-  after_instr (WaitKey x) t s = pressed t s (first_from limit (λ j. keys_seen t (114 + 14 * j) (j % 16)) 0)
+  after_instr (WaitKey x) t s = pressed x t s (first_from limit (λ j. keys_seen t (114 + 14 * j) (j % 16)) 0)
   after_instr i t s = ran t s Nothing (cycles e i Nothing s)
 
   abbrev pub by_stop : Option Stop → ℕ → Lang → Next
@@ -204,6 +204,10 @@ module _ (e : Edition) (script : List Event) (limit : ℕ) where
   next_point t s = by_stop (stop_of e s) t s
 
 -- ---- a run
+
+-- the cycle of the first dispatch point of a game
+abbrev pub boot_cycle : ℕ
+boot_cycle = 56
 
 -- what a run shows: the picture of a frame, a dispatch point and the stop point
 pub data Shown : Type 0 where
@@ -230,6 +234,7 @@ module _ (e : Edition) (script : List Event) (limit : ℕ) where
   shown_behind zero k t s = pictures_to k limit s.screen
   shown_behind (suc n) k t s = shown_by k s.screen (λ c z. shown_behind n (windows_ended c) c z) (next_point e script limit t s)
 
-  -- the run of a game: its first state comes in cycle 56
+  -- the run of a game, from its first state on, where the limit leaves time for that
   abbrev pub timed_run : List ℕ → List Shown
-  timed_run game = if nat_le 56 limit then Point 56 (first e game) ∷ shown_behind limit 0 56 (first e game) else []
+  timed_run game =
+      if nat_le boot_cycle limit then Point boot_cycle (first e game) ∷ shown_behind limit 0 boot_cycle (first e game) else []

@@ -1,10 +1,10 @@
 //! Worked examples of the definitions, each proved by computing: what a definition says of one case that the manual or plain arithmetic
 //! decides.
 
-ghost use Rattle.std.specs.Prelude.{◌≡◌, ◌∷◌, [], Some, None, true};
+ghost use Rattle.std.specs.Prelude.{◌≡◌, ◌∷◌, [], Some, None, true, slice_index};
 ghost use Rattle.chip8_lang.specs.Between.{ticks_between};
 ghost use Rattle.chip8_lang.specs.Decode.{instr_of};
-ghost use Rattle.chip8_lang.specs.Samples.{next_cycle, stepped_once, ticked_twice};
+ghost use Rattle.chip8_lang.specs.Samples.{cycle_behind, next_cycle, press, state_behind, state_with, stepped_once, take, ticked_twice, wait};
 ghost use Rattle.chip8_lang.specs.State.{first};
 ghost use Rattle.chip8_lang.specs.Step.{stop_of};
 ghost use Rattle.chip8_lang.specs.Timed.{ended, interrupts, later, woken};
@@ -53,4 +53,53 @@ pub fn points()
     ensures clear { next_cycle 56 (0x00 ∷ 0xe0 ∷ []) ≡ (3708, 1) }
     ensures no_rows { next_cycle 56 (0xd0 ∷ 0x00 ∷ []) ≡ (2962, 1) }
     ensures stop { next_cycle 1000 (0xd0 ∷ 0x01 ∷ []) ≡ (2998, 1) }
+{}
+
+/// How many main cycles each instruction takes, and each stop, as docs/TIMING.md has them.
+pub fn times()
+    ensures plain { take 0x300 ((0x6005, 86) ∷ (0x7005, 90) ∷ (0x1200, 92) ∷ (0xa123, 92) ∷ (0xf007, 92) ∷ (0x8010, 100) ∷ (0xf015, 104) ∷ (0xb200, 106) ∷ (0x2200, 108) ∷ (0xf018, 110) ∷ (0xc000, 114) ∷ []) ≡ true }
+    ensures arithmetic { take 0x300 ((0x8011, 120) ∷ (0x8012, 120) ∷ (0x8013, 120) ∷ (0x8014, 118) ∷ (0x8015, 118) ∷ (0x8016, 118) ∷ (0x8017, 118) ∷ (0x801e, 118) ∷ (0x00ee, 126) ∷ (0xf01e, 126) ∷ (0xf029, 146) ∷ []) ≡ true }
+    ensures skips { take 0x300 ((0x3001, 90) ∷ (0x3000, 94) ∷ (0x4000, 90) ∷ (0x4001, 94) ∷ (0x50e0, 96) ∷ (0x5010, 100) ∷ (0x9010, 96) ∷ (0x90e0, 100) ∷ (0xe09e, 94) ∷ (0xe0a1, 104) ∷ []) ≡ true }
+    ensures memory { take 0x300 ((0xf033, 230) ∷ (0xff33, 272) ∷ (0xf055, 206) ∷ (0xf355, 242) ∷ (0xf065, 214) ∷ (0xf365, 250) ∷ []) ≡ true }
+    ensures font { take 0x8700 ((0xf065, 228) ∷ (0xf365, 264) ∷ []) ≡ true }
+    ensures stops { take 0 ((0x0000, 122) ∷ (0x0100, 110) ∷ (0x5001, 112) ∷ (0x9001, 112) ∷ (0x8008, 120) ∷ (0xe000, 120) ∷ (0xf000, 160) ∷ (0xd001, 152) ∷ (0xf065, 206) ∷ (0xf033, 188) ∷ (0xf055, 198) ∷ []) ≡ true }
+    ensures behind_memory { take 0xf00 ((0xd001, 170) ∷ (0xf065, 224) ∷ (0xf033, 206) ∷ (0xf055, 216) ∷ []) ≡ true }
+    ensures behind_font { take 0x8760 ((0xd001, 178) ∷ (0xf065, 232) ∷ (0xf033, 214) ∷ (0xf055, 224) ∷ []) ≡ true }
+    ensures below { cycle_behind 56 [] (record (state_with 0 0x6005) { pc = 0x100 }) ≡ 88 }
+    ensures above { cycle_behind 56 [] (record (state_with 0 0x6005) { pc = 0xea0 }) ≡ 98 }
+    ensures empty { cycle_behind 56 [] (record (state_with 0 0x00ee) { stack = [] }) ≡ 184 }
+    ensures full { cycle_behind 56 [] (record (state_with 0 0x2200) { stack = 1 ∷ 2 ∷ 3 ∷ 4 ∷ 5 ∷ 6 ∷ 7 ∷ 8 ∷ 9 ∷ 10 ∷ 11 ∷ 12 ∷ [] }) ≡ 168 }
+{}
+
+/// The display wait: 00E0; sprites of no row, of one row at column 0, 1 and 63, at the bottom edge and of two rows in its last one; and of a byte of the font.
+pub fn waits()
+    ensures rows { wait 0x300 ((0x00e0, 102, 770) ∷ (0xd000, 222, 24) ∷ (0xd001, 312, 82) ∷ (0xde01, 324, 82) ∷ (0xdf01, 394, 82) ∷ (0xd0f1, 320, 82) ∷ (0xd0f2, 320, 82) ∷ (0xd002, 352, 140) ∷ []) ≡ true }
+    ensures font { wait 0x8700 ((0xd001, 326, 82) ∷ []) ≡ true }
+{}
+
+/// FX0A: from cycle 56 on it looks at key 0 in cycle 171, at key 1 in cycle 185 and so on; and at the one that was down 2, 4, 6 cycles later and so on. EX9E and
+/// EXA1 look in cycles 147 and 153.
+#[tactic(auto, unfolding(crate::specs::Timed::first_from))]
+pub fn looks()
+    ensures at_once { cycle_behind 56 (press 0 171 172) (state_with 0 0xf00a) ≡ 182 }
+    ensures up_at_once { cycle_behind 56 (press 0 171 173) (state_with 0 0xf00a) ≡ 182 }
+    ensures held { cycle_behind 56 (press 0 171 174) (state_with 0 0xf00a) ≡ 184 }
+    ensures held_on { cycle_behind 56 (press 0 171 176) (state_with 0 0xf00a) ≡ 186 }
+    ensures second { cycle_behind 56 (press 1 185 186) (state_with 0 0xf00a) ≡ 196 }
+    ensures second_held { cycle_behind 56 (press 1 185 188) (state_with 0 0xf00a) ≡ 198 }
+    ensures down { cycle_behind 56 (press 0 147 148) (state_with 0 0xe09e) ≡ 154 }
+    ensures not_down { cycle_behind 56 (press 0 153 154) (state_with 0 0xe0a1) ≡ 156 }
+{}
+
+/// Which ticks come before a step: one in a cycle of the interrupt comes before CXKK, FX07, FX15 and FX18 where main code has made 91, 87, 101 and 107 main cycles
+/// by then, and else behind them.
+pub fn ticks_before()
+    ensures random { (state_behind 1001 0xc0ff).b ≡ 114 }
+    ensures random_behind { (state_behind 1000 0xc0ff).b ≡ 113 }
+    ensures delay { slice_index (state_behind 1005 0xf007).v 0 ≡ 4 }
+    ensures delay_behind { slice_index (state_behind 1004 0xf007).v 0 ≡ 5 }
+    ensures set_delay { (state_behind 991 0xff15).dt ≡ 255 }
+    ensures set_delay_behind { (state_behind 990 0xff15).dt ≡ 254 }
+    ensures set_sound { (state_behind 985 0xff18).st ≡ 255 }
+    ensures set_sound_behind { (state_behind 984 0xff18).st ≡ 254 }
 {}

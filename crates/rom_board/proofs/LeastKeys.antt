@@ -123,10 +123,10 @@ module _ (e : Edition) (script : List Event) (limit t : ℕ) (s : Lang) (u w : �
       found limit (is_up down.r) 0 let_up.i (omega arith) (omega (arith, in_time, enough, no_less t (116 + 14 * down.r + 2 * let_up.i)))
       (ap not (p.released (look_up t down.r let_up.i) (down.r % 16) let_up.from in_time (omega arith)))
 
-  key_ends : Ends (pressed e script limit t s (first_from limit is_down 0))
-  key_ends =
-      subst (λ o. Ends (pressed e script limit t s o)) (sym down.is)
-      (subst (λ o. Ends (let_go e script limit t s down.r o)) (sym up.is)
+  key_ends : (x : ℕ) → Ends (pressed e script limit x t s (first_from limit is_down 0))
+  key_ends x =
+      subst (λ o. Ends (pressed e script limit x t s o)) (sym down.is)
+      (subst (λ o. Ends (let_go e script limit x t s down.r o)) (sym up.is)
       (omega (
         arith,
         grows t (126 + 14 * down.r + 2 * up.r) (126 + 14 * down.r + 2 * let_up.i) (omega (arith, up.most)),
@@ -139,7 +139,7 @@ module _ (e : Edition) (script : List Event) (limit t : ℕ) (s : Lang) (u w : �
   EndsBy None n = Ends n
 
   after_key : (i : Instr) → EndsBy (line_of_instr i) (after_instr e script limit i t s)
-  after_key (WaitKey x) = key_ends
+  after_key (WaitKey x) = key_ends x
   after_key _ = tt
 
   by_key : (o : Option Stop) → EndsBy (line_by o (instr_at s)) (by_stop e script limit o t s)

@@ -12,7 +12,7 @@ use Rattle.chip8_lang.specs.declared.view.Stop.{Stop}
 use Rattle.chip8_lang.specs.Places.{state_of}
 use Rattle.chip8_lang.specs.State.{Lang, first, memory_size, instr_at, variable}
 use Rattle.chip8_lang.specs.Step.{stop_of}
-use Rattle.chip8_lang.specs.Timed.{Next, Shown, next_point, shown_behind, timed_run}
+use Rattle.chip8_lang.specs.Timed.{Next, Shown, boot_cycle, next_point, shown_behind, timed_run}
 use Rattle.chip8_lang.specs.Timed.Next.{Dispatch, Stopped, Never}
 use Rattle.chip8_lang.specs.Timed.Shown.{Point}
 use Rattle.rom_run.specs.States.{MayStart}
@@ -178,12 +178,22 @@ KeyMissed = (e : Edition) → IsWaited e (least_down - 1) least_up (λ w next. C
 
 -- ---- boot
 
--- the first point comes in this cycle exactly, and none where the limit is below it
-abbrev pub least_boot : ℕ
-least_boot = 56
-
+-- the first point comes in its cycle exactly, and none where the limit is below it
 abbrev pub EveryBoot : Type 0
 EveryBoot =
     (e : Edition) (game : List ℕ) (script : List Event) (limit : ℕ)
-    → (least_boot ≤ limit → slice_get (timed_run e script limit game) 0 ≡ Some (Point least_boot (first e game)))
-    × (limit < least_boot → timed_run e script limit game ≡ [])
+    → (boot_cycle ≤ limit → slice_get (timed_run e script limit game) 0 ≡ Some (Point boot_cycle (first e game)))
+    × (limit < boot_cycle → timed_run e script limit game ≡ [])
+
+-- ---- all of them
+
+-- For each line that `bounds` prints the least number of machine cycles that holds, by the language's time alone, in both editions; and what it is said of.
+pub record LeastBounds : Type 0 where
+  pub boot : EveryBoot
+  pub points : EveryPoint
+  pub points_behind : EveryPointBehind
+  pub holds : EveryBound
+  pub taken : EveryTaken
+  pub key : EveryKeyBound
+  pub key_taken : KeyTaken
+  pub key_missed : KeyMissed

@@ -1,6 +1,6 @@
 //! The least bounds, a law that is the contract of a function without parameters.
 
-ghost use Rattle.rom_board.specs.LeastBounds.{EveryBoot, EveryBound, EveryKeyBound, EveryPoint, EveryPointBehind, EveryTaken, KeyMissed, KeyTaken};
+ghost use Rattle.rom_board.specs.LeastBounds.{LeastBounds};
 
 /// For each line that `bounds` prints the least number of machine cycles that holds, by the language's time alone, in both editions. The first dispatch
 /// point is in cycle 56 (`boot`). Every dispatch point of a run, from reset or from any machine that may start, is in an even cycle, and its variables
@@ -10,12 +10,5 @@ ghost use Rattle.rom_board.specs.LeastBounds.{EveryBoot, EveryBound, EveryKeyBou
 /// a key was down since it began (`key`): a game's run ends it in the last of the former, and one waits on where the key is down in 2,171 alone
 /// (`key_taken`, `key_missed`).
 pub fn least_bounds()
-    ensures boot { EveryBoot }
-    ensures points { EveryPoint }
-    ensures points_behind { EveryPointBehind }
-    ensures holds { EveryBound }
-    ensures taken { EveryTaken }
-    ensures key { EveryKeyBound }
-    ensures key_taken { KeyTaken }
-    ensures key_missed { KeyMissed }
+    ensures { LeastBounds }
 {}

@@ -149,10 +149,10 @@ module _ (e : Edition) (script : List Event) (limit : ℕ) (h : Since) (z : Lang
     chosen : (x : ℕ) → instr_at s ≡ WaitKey x → (k : ℕ) → Chooses h.moments h.spent k → z ≡ ticks after (step e (Chosen k) (ticks before s))
         → after_instr e script limit (WaitKey x) a s ≡ Dispatch c z
     chosen x is k m made =
-        ap (pressed e script limit a s) (first_is limit (λ j. held_at script (later a (114 + 14 * j) + 1) (j % 16)) m.turn
+        ap (pressed e script limit x a s) (first_is limit (λ j. held_at script (later a (114 + 14 * j) + 1) (j % 16)) m.turn
         (omega (arith, late)) (λ i l. saw (114 + 14 * i) (i % 16) false (m.holds.searched i l))
         (saw (114 + 14 * m.turn) (m.turn % 16) true m.holds.down))
-        ∙ ap (let_go e script limit a s m.turn)
+        ∙ ap (let_go e script limit x a s m.turn)
         (first_is limit (λ i. not (held_at script (later a (116 + 14 * m.turn + 2 * i) + 1) (m.turn % 16))) m.looks (omega (arith, late))
         (λ i l. ap not (saw (116 + 14 * m.turn + 2 * i) (m.turn % 16) true (m.holds.held i l)))
         (ap not (saw (116 + 14 * m.turn + 2 * m.looks) (m.turn % 16) false m.up)))

@@ -291,7 +291,7 @@ module _ (e : Edition) (script other : List Event) (t : ℕ) (s : Lang) (limit c
   abbrev all_cycles : ℕ → ℕ → ℕ
   all_cycles j i = 126 + 14 * j + 2 * i
 
-  at_pressed : At c (pressed e other c t s (first_from c (is_down other) 0))
+  at_pressed : At c (pressed e other c a.x t s (first_from c (is_down other) 0))
   at_pressed = subst (At c) (ap (λ o. by_stop e other c o t s) runs ∙ ap (λ i. after_instr e other c i t s) a.is) at
 
   module _ (j i : ℕ) (down : first_from limit (is_down script) 0 ≡ Some j) (up : first_from limit (is_up script j) 0 ≡ Some i)
@@ -314,7 +314,7 @@ module _ (e : Edition) (script other : List Event) (t : ℕ) (s : Lang) (limit c
     other_up = (first_more limit c (is_up script j) (is_up other j) 0 i (omega (arith, behind)) up_same up).0
 
     ends_there : c ≡ later t (all_cycles j i)
-    ends_there = subst (At c) (ap (λ o. pressed e other c t s o) other_down ∙ ap (λ o. let_go e other c t s j o) other_up) at_pressed
+    ends_there = subst (At c) (ap (λ o. pressed e other c a.x t s o) other_down ∙ ap (λ o. let_go e other c a.x t s j o) other_up) at_pressed
 
   ran_past : (j i : ℕ) → first_from limit (is_down script) 0 ≡ Some j → first_from limit (is_up script j) 0 ≡ Some i → limit < later t (all_cycles j i)
   ran_past j i down up = go (cases_lt limit (later t (all_cycles j i)))
@@ -324,11 +324,11 @@ module _ (e : Edition) (script other : List Event) (t : ℕ) (s : Lang) (limit c
       go (inr l) = absurd (omega (arith, behind, l, ends_there j i down up l))
 
   up_past : (j : ℕ) → first_from limit (is_down script) 0 ≡ Some j → (o : Option ℕ) → first_from limit (is_up script j) 0 ≡ o
-      → IsPast limit (let_go e script limit t s j o)
+      → IsPast limit (let_go e script limit a.x t s j o)
   up_past j down None up = tt
   up_past j down (Some i) up = ran_past j i down up
 
-  down_past : (o : Option ℕ) → first_from limit (is_down script) 0 ≡ o → IsPast limit (pressed e script limit t s o)
+  down_past : (o : Option ℕ) → first_from limit (is_down script) 0 ≡ o → IsPast limit (pressed e script limit a.x t s o)
   down_past None down = tt
   down_past (Some j) down = up_past j down (first_from limit (is_up script j) 0) refl
 

@@ -139,11 +139,11 @@ module _ (e : Edition) (script : List KeyEvent) (limit : ℕ) where
   after_late (Draw x y n) t s l = omega (arith, l)
   after_late (WaitKey x) t s l = pressed_late (first_from limit (λ j. held_at script (later t (114 + 14 * j) + 1) (j % 16)) 0)
     where
-      let_go_late : (j : ℕ) (o : Option ℕ) → IsPast limit (let_go e script limit t s j o)
+      let_go_late : (j : ℕ) (o : Option ℕ) → IsPast limit (let_go e script limit x t s j o)
       let_go_late j None = tt
       let_go_late j (Some i) = omega (arith, l)
 
-      pressed_late : (o : Option ℕ) → IsPast limit (pressed e script limit t s o)
+      pressed_late : (o : Option ℕ) → IsPast limit (pressed e script limit x t s o)
       pressed_late None = tt
       pressed_late (Some j) = let_go_late j _
   after_late (SkipDown x) t s l = omega (arith, l)
