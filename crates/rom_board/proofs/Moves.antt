@@ -35,6 +35,7 @@ keeps_display e h b o enabled waits = go enabled waits (keeps_running Sprite e h
     go : (moved b).machine.regs.ie ≡ true → (moved b).machine.regs.idle ≡ true
         → Moves (vip e) b.script (Running e b.script) (carried_on b h) (moved b).machine
         → Display (carried_on b h) (λ most. (carried_on b h).spent ≤ most)
-    go enabled waits (Still calm goes_on r) = waits_soon e b.script (moved b).machine (carried_on b h) r enabled waits
+    go enabled waits (Still calm goes_on r) =
+        let w = waits_soon e b.script (moved b).machine (carried_on b h) r enabled waits in record { most = w.most; waits = w.waits; here = w.here.1 }
     go enabled waits (Arrived at goes_on covers s due r) = absurd (sleeps (sym waits ∙ s.stands.keeps.lies.awake))
     go enabled waits (Halted at covers stop s cycle) = absurd (sleeps (sym waits ∙ s.halts.keeps.lies.awake))

@@ -6,11 +6,16 @@ use Rattle.machine.specs.Keys.{Event as KeyEvent, held_at}
 use Rattle.machine.specs.Pictures.{interrupt_at}
 use Rattle.chip8_lang.specs.Events.{is_dispatch}
 use Rattle.rom_law.specs.Program.{Program}
+use Rattle.rom_law.specs.Rows.{Since}
 use Rattle.rom_law.specs.Runs.{state_after, record_after}
 use Rattle.rom_run.specs.Display.{AtDisplay, Changes, Display, SameInterval, WritesScreen}
 use Rattle.rom_run.specs.Running.{Showing}
 use Rattle.rom_run.specs.States.{InterruptedThere, IsInterruptCycle, ReachesCycle, Unstopped}
-use Rattle.rom_run.specs.Time.{most_changing, since_return}
+use Rattle.rom_run.specs.Time.{most_changing, since_return, wait_time}
+
+-- as many main cycles have passed as the instruction makes before its wait
+abbrev pub IsDue : Program → Since → Type 0
+IsDue x h = h.spent ≡ wait_time x.edition h.state
 
 module _ (x : Program) (script : List KeyEvent) where
   -- The screen in a run that begins at the dispatch point b.
@@ -18,9 +23,9 @@ module _ (x : Program) (script : List KeyEvent) where
     -- in the cycle of an interrupt the screen in RAM is that of the last dispatch point
     pub shows : (i : ℕ) → Unstopped x script b (suc i) → IsInterruptCycle (state_after x script b i).cycle
         → Showing x.edition (state_after x script b i) (record_after x script b i)
-    -- main code waits in 00E0 and DXYN alone, after at most 102 and 2,154 main cycles
+    -- main code waits in 00E0 and DXYN alone, after exactly the main cycles of their time, 102 and at most 2,154
     pub waits : (i : ℕ) → Unstopped x script b (suc i) → (state_after x script b i).regs.ie ≡ true → (state_after x script b i).regs.idle ≡ true
-        → Display (record_after x script b i) (λ most. (record_after x script b i).spent ≤ most)
+        → Display (record_after x script b i) (λ most. IsDue x (record_after x script b i) × ((record_after x script b i).spent ≤ most))
     -- it writes to the screen in them alone, at most 1,560 cycles after the return of the interrupt routine
     pub writes : (i : ℕ) → Unstopped x script b (suc i) → WritesScreen x (held_at script) (state_after x script b i)
         → Display (record_after x script b i) (λ most. since_return (state_after x script b i).cycle ≤ most_changing)

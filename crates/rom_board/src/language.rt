@@ -36,8 +36,9 @@ pub fn file_may_start()
 
 /// These runs keep to their frames. Up to the stop the next move is an interrupt exactly in cycle 0 of a frame's line 78, boot included, and no such
 /// cycle is passed over. No interrupt disturbs the display: in the cycle of each one the screen in RAM is that of the last dispatch point; 00E0 and DXYN
-/// wait for the display after at most 102 and 2,154 main cycles, and nothing else waits or writes to the screen; they write at most 1,560 cycles after the
-/// return of the interrupt routine, and from there up to the next dispatch point each move is an instruction, with no interrupt's cycle among them.
+/// wait for the display after exactly the main cycles of their time, 102 and at most 2,154, and nothing else waits or writes to the screen; they write at
+/// most 1,560 cycles after the return of the interrupt routine, and from there up to the next dispatch point each move is an instruction, with no
+/// interrupt's cycle among them.
 pub fn every_frame()
     ensures from_reset { EveryFrame }
     ensures from_any_start { EveryFrameBehind }

@@ -61,8 +61,8 @@ module _ (e : Edition) (script : List Event) where
   due_awake b h i (Arrives s st makes) = sleeps (sym i ∙ st.stands.keeps.lies.awake)
   due_awake b h i (Ends stop st) = sleeps (sym i ∙ st.halts.keeps.lies.awake)
 
-  outside_soon : (b : Machine) (h : Since) → b.regs.idle ≡ true → Outside e script b h → Display h (λ most. h.spent ≤ most)
-  outside_soon b h i (AtRow t row n time) = let w = row_waits e b h i row in record { most = w.most; waits = w.waits; here = w.soon }
+  outside_soon : (b : Machine) (h : Since) → b.regs.idle ≡ true → Outside e script b h → Display h (λ most. (h.spent ≡ wait_time e h.state) × (h.spent ≤ most))
+  outside_soon b h i (AtRow t row n time) = let w = row_waits e b h i row in record { most = w.most; waits = w.waits; here = (w.exact, w.soon) }
   outside_soon b h i (AtEvent t q d late y) = absurd (due_awake b h i d)
 
   -- ---- in the interrupt routine interrupts are disabled
@@ -71,7 +71,7 @@ module _ (e : Edition) (script : List Event) where
   apart_from b h s enabled =
       sleeps (sym enabled ∙ served_disabled e script b h s)
 
-  soon : (b : Machine) (h : Since) → Running e script b h → b.regs.ie ≡ true → b.regs.idle ≡ true → Display h (λ most. h.spent ≤ most)
+  soon : (b : Machine) (h : Since) → Running e script b h → b.regs.ie ≡ true → b.regs.idle ≡ true → Display h (λ most. (h.spent ≡ wait_time e h.state) × (h.spent ≤ most))
   soon b h (InMain o) enabled i = outside_soon b h i o
   soon b h (InRoutine s) enabled i = absurd (apart_from b h s enabled)
 

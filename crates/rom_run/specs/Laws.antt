@@ -25,7 +25,7 @@ use Rattle.rom_rows.specs.Table.{pieces}
 use Rattle.rom_parts.specs.fetch.Laws.{boot_moves}
 use Rattle.rom_run.specs.Display.{Display, WritesScreen, SameInterval, AtDisplay, Changes}
 use Rattle.rom_run.specs.Running.{Running, Booting, FromBoot, Showing}
-use Rattle.rom_run.specs.Time.{since_return, most_changing}
+use Rattle.rom_run.specs.Time.{most_changing, since_return, wait_time}
 use Rattle.rom_run.specs.States.{MayStart, Beginning, BootsTo, Unstopped, StateKnown, InterruptedThere, ReachesCycle}
 
 -- whenever timer ticks come, main code does what the language says
@@ -129,14 +129,14 @@ Undisturbed =
     → place b.cycle ≡ interrupt_place
     → Showing e b h
 
--- Where main code waits, its instruction is 00E0 or DXYN: it waits for the display.
+-- Where main code waits, its instruction is 00E0 or DXYN: it waits for the display, after exactly the main cycles of its time, which are these at most.
 abbrev pub WaitsSoon : Type 0
 WaitsSoon =
     (e : Edition) (script : List Event) (b : Machine) (h : Since)
     → Running e script b h
     → b.regs.ie ≡ true
     → b.regs.idle ≡ true
-    → Display h (λ most. h.spent ≤ most)
+    → Display h (λ most. (h.spent ≡ wait_time e h.state) × (h.spent ≤ most))
 
 -- Main code writes to the screen in 00E0 and DXYN alone, at most 1,560 cycles after the return of the interrupt routine that ended the wait.
 abbrev pub WritesSoon : Type 0

@@ -27,8 +27,8 @@ pub fn undisturbed()
     ensures { Undisturbed }
 {}
 
-/// Main code waits for the display alone: in 00E0 after at most 102 main cycles from the dispatch point on, and in DXYN after at most 2,154, in
-/// which the sprite is prepared.
+/// Main code waits for the display alone: in 00E0 after 102 main cycles from the dispatch point on, and in DXYN after exactly those in which the language's
+/// time has the sprite prepared, at most 2,154.
 pub fn waits_soon()
     ensures { WaitsSoon }
 {}
