@@ -27,3 +27,4 @@ pub use output::show_saved;
 pub use pieces::{show_pictures, show_trace};
 pub use profile::{Profile, show_profile};
 pub use summary::show_summary;
+pub use writing::write_state;

@@ -11,7 +11,7 @@ use vip_board::Board;
 use vip_byte::{Buffer, put};
 use vip_cpu::Cpu;
 use vip_memory::Memory;
-use vip_relation::{Run, put_page};
+use vip_relation::{Run, Vip, put_page};
 
 /// Writes the file of the machine state of a run into an empty buffer. At a dispatch point it is an accepted file of the run's edition, and shows the
 /// state of the board (`rom_board::saved`).
@@ -20,6 +20,15 @@ pub(crate) fn write_run(run: &Run, into: &mut Buffer)
     ensures { into.new.items ≡ file_of run.now.edition run.now.board.machine }
 {
     put_file(run.edition(), run.board(), into);
+}
+
+/// Writes the file of the machine state of a `Vip` into an empty buffer, as `save` writes that of a run. At a dispatch point it is an accepted file of its
+/// edition, and shows the state of its board.
+pub fn write_state(vip: &Vip, into: &mut Buffer)
+    requires { into.old.items ≡ [] }
+    ensures { into.new.items ≡ file_of vip.now.edition vip.now.board.machine }
+{
+    write_run(vip.as_run(), into);
 }
 
 /// Puts the file of a board of an edition into an empty buffer.
