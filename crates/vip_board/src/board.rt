@@ -610,7 +610,7 @@ impl Board {
     /// EF2 is 1 where the incoming wire is full at the start of the move, and EF4 where the outgoing one is. INP 3 takes the byte of the
     /// incoming wire, which is then empty, and 00 where it was empty. OUT 3 puts its byte on the outgoing wire, and loses it where that one
     /// is full.
-    pub fn make_linked(&mut self, incoming: &mut Wire, outgoing: &mut Wire) -> Move
+    pub fn linked(&mut self, incoming: &mut Wire, outgoing: &mut Wire) -> Move
         requires boundary { self.old.phase ≡ Phase.Boundary }
         requires fits { self.old.machine.cycle + 3 < 2 ^ 64 }
         ensures moved { self.new ≡ linked_moved self.old incoming.old outgoing.old }

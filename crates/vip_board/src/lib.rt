@@ -17,7 +17,7 @@
 //!   the limit and changes nothing; `cycle` makes the next machine cycle of that move.
 //! - `run` makes moves up to the first one behind which one of some `Stops` comes next, which finishes a picture, or behind which the processor falls
 //!   asleep, and answers how many.
-//! - `make_linked` makes the next move with two wires at port 3, as `specs/Linked.antt` defines it; on wires that nobody fills a board moves as one
+//! - `linked` makes the next move with two wires at port 3, as `specs/Linked.antt` defines it; on wires that nobody fills a board moves as one
 //!   alone (`laws::as_alone`).
 //! - What the video chip has of pictures is what the definition of pictures says of the moves made so far (`specs/Shown.antt`); of a board
 //!   that `restore` made at a later cycle, of the frames whose interrupts start at or after it.

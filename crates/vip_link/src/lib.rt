@@ -1,7 +1,7 @@
 //! Two boards that are joined by port 3: A sends a message by the ROM SENDER, B stores it by the ROM RECEIVER, and whoever holds the link says
 //! which of them moves next.
 //!
-//! It stands on `vip_board`, whose `make_linked` makes one linked move, on `rom_law` for how machine code reads ROM and RAM, and on `chip8_source`,
+//! It stands on `vip_board`, whose `linked` makes one linked move, on `rom_law` for how machine code reads ROM and RAM, and on `chip8_source`,
 //! which compares the ROMs with their texts. The layer above may rely on this: `Link::step` makes exactly the linked move of its side, and after
 //! every step what was sent is a prefix of the message, what was received is a prefix of that and at most one byte shorter, and lies in B's RAM
 //! from 0200 on, and both displays are off; `Link::run` makes the moves of the schedule that a number gives; `laws::every_schedule` says of the

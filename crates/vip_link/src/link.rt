@@ -204,7 +204,7 @@ impl Link {
         ensures named { result ≡ name_of self.old.pair.a }
     {
         let before = self.to_b.full();
-        let made = self.a.make_linked(&mut self.to_a, &mut self.to_b);
+        let made = self.a.linked(&mut self.to_a, &mut self.to_b);
         self.sent += bytes_entered(before, self.to_b.full());
         self.moves += 1;
         made
@@ -217,7 +217,7 @@ impl Link {
         ensures named { result ≡ name_of self.old.pair.b }
     {
         let before = self.to_b.full();
-        let made = self.b.make_linked(&mut self.to_b, &mut self.to_a);
+        let made = self.b.linked(&mut self.to_b, &mut self.to_a);
         store(&mut self.received, byte_left(before, self.to_b.full()));
         self.moves += 1;
         made

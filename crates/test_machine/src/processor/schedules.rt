@@ -162,7 +162,7 @@ fn keeps(board: &mut Board) -> bool {
     let mut outgoing = Wire::new();
     for _move in 0..2 {
         if board.cpu().at_boundary() && board.now() < 100 {
-            board.make_linked(&mut incoming, &mut outgoing);
+            board.linked(&mut incoming, &mut outgoing);
         }
     }
     outgoing.full() == Some(0x41) && board.cpu().r(0) == 4

@@ -6,8 +6,8 @@ use Rattle.machine.specs.Board.Case.{Dma as DmaCase, Interrupt as InterruptCase,
 use Rattle.vip_board.proofs.Cases.{dma-move, interrupt-move, idle-move, name-in}
 use Rattle.vip_board.proofs.Calls.{begins-otherwise}
 use Rattle.vip_board.proofs.Joins.{EndsLinked, two-ends, three-ends, dma-leaves, interrupt-leaves, idle-leaves}
-use Rattle.vip_board.proofs.board.Board.make_linked.Goals as goal
-use Rattle.vip_board.proofs.board.Board.make_linked.Goals.{then-length-eq3, else-length-eq3}
+use Rattle.vip_board.proofs.board.Board.linked.Goals as goal
+use Rattle.vip_board.proofs.board.Board.linked.Goals.{then-length-eq3, else-length-eq3}
 
 pub unreachable-requires : goal.unreachable-requires
 unreachable-requires c = begins-otherwise c.args.self.now c.requires.boundary (sym c.cycle.ensures.did ∙ c.in-Execute.is)
