@@ -1,6 +1,5 @@
 -- Where the debugger's commands leave the board at a stop point, its stop is that of the whole run.
-use Rattle.std.proofs.Common.{◌≡◌, ◌⊎◌, inl, inr, ℕ, ◌≤◌, Bool, true, false, List, [], ◌∷◌, ◌++◌, Option, Some, None, refl, sym, ap, ◌∙◌, arith}
-use Rattle.std.specs.Prelude.{if◌then◌else◌}
+use Rattle.std.proofs.Common.{◌≡◌, ℕ, ◌≤◌, true, false, List, [], ◌∷◌, ◌++◌, Option, Some, None, refl, sym, ap, ◌∙◌, arith}
 use Rattle.std.specs.Option.{option_map}
 use Rattle.machine.specs.Board.{Machine}
 use Rattle.machine.specs.Keys.{Event as KeyEvent, held_at}
@@ -16,14 +15,12 @@ use Rattle.vip_relation.specs.State.{Start, VipState, begun, events_from, machin
 use Rattle.vip_relation.specs.Stops.{stop_at, pc_of, opcode_of}
 use Rattle.rom_board.proofs.Passed.{NoStop, before_point, events_to_stop, last_after, last_after_stop, last_of_events, no_stop_before}
 use Rattle.vip_text.specs.Endings.{Ending}
-use Rattle.vip_text.specs.Endings.Ending.{AtLimit, AtStop}
+use Rattle.vip_text.specs.Endings.Ending.{AtStop}
 use Rattle.vip_show.specs.Endings.{ending_after}
-use Rattle.vip_words.specs.Spoken.{Spoken}
-use Rattle.vip_debug.specs.Answers.{stop_by, place_after, at_start}
+use Rattle.vip_debug.specs.Answers.{stop_by}
 use Rattle.vip_debug.proofs.TargetRuns.{Reached}
 use Rattle.vip_debug.specs.Game.{run_at}
-use Rattle.vip_debug.proofs.Reaching.{commands_reach}
-use Rattle.vip_verbs.specs.Outcome.{run_ending, stopped_by, debug_ending}
+use Rattle.vip_verbs.specs.Outcome.{run_ending, stopped_by}
 
 module _ (e : Edition) where
   -- ---- the ending by some events
@@ -69,18 +66,3 @@ module _ (e : Edition) where
 
         events : (t : ℕ) → (at_state n).cycle ≤ t → events_from i script s t ≡ here ++ Stopped (at_state n) ∷ []
         events t within = events_to_stop i s script begins t n within stop r.runs
-
-    -- A run under the debugger ends as at the limit, or as the whole run: where the commands leave the board at a stop point, no state before it
-    -- was one, so its last dispatch point is the run's.
-    pub debug_ends : (commands : List Spoken) → (debug_ending v limit commands ≡ AtLimit) ⊎ (debug_ending v limit commands ≡ run_ending e s script limit)
-    debug_ends commands = by_test (is_stop i (at_state n)) refl
-      where
-        n : ℕ
-        n = (place_after v limit commands (at_start v)).moves
-
-        by_test :
-            (stop : Bool) → is_stop i (at_state n) ≡ stop
-            → ((if stop then stopped_by (stop_by v n) else AtLimit) ≡ AtLimit)
-            ⊎ ((if stop then stopped_by (stop_by v n) else AtLimit) ≡ run_ending e s script limit)
-        by_test true is = inr (stop_is n (commands_reach e s script begins limit late commands) is)
-        by_test false is = inl refl

@@ -44,18 +44,20 @@ use Rattle.vip_words.specs.declared.debug_commands.Seeking.{Seeking}
 use Rattle.vip_words.specs.declared.debug_commands.Seeking.TheVariants.{Next, Break}
 use Rattle.vip_words.specs.declared.debug_commands.Telling.TheVariants.{Code, State, Screen}
 use Rattle.vip_debug.proofs.TargetRuns.{Reached, all-moves, last-here, until, until-from, until-past}
-use Rattle.vip_debug.specs.Answers.{Arrival, Place, all_met, at_point, events_by, has_pc, lines_at, met_at, moved_on, moves_until, place_after, at_start, place_with, points_ahead, ran, running_lines, seeking_lines, sought, stop_by, stop_text, written}
+use Rattle.vip_debug.specs.Answers.{Arrival, Place, all_met, at_point, events_by, has_pc, lines_at, met_at, moved_on, moves_until, place_after, at_start, place_with, points_ahead, ran, running_lines, seeking_lines, sought, stop_by, stop_text, told, written}
 use Rattle.vip_debug.specs.Answers.{pieces as pieces_of}
+use Rattle.vip_debug.specs.Code.{clear_byte, code_lines}
 use Rattle.vip_debug.specs.Commands.{came}
 use Rattle.vip_debug.specs.Game.{run_at}
 use Rattle.vip_debug.specs.TargetRun as run
 use Rattle.vip_debug.proofs.Reaching.{all_past, at_begin, last_until, with_one}
 use Rattle.vip_verbs.specs.Outcome.{debug_ending, ending_where, run_ending, stopped_by}
-use Rattle.vip_call.specs.Commands.{AllAnswered, Answers, NamesStop, ahead, found_line, last_met, place_at, screen_text, state_text, stops_by}
+use Rattle.vip_call.specs.Commands.{AllAnswered, Answers, NamesStop, ShowsCode, ahead, found_line, last_met, place_at, screen_text, state_text, stops_by}
 use Rattle.vip_call.specs.Commands.{sought as sought_point}
 use Rattle.vip_call.specs.Transcript.{Point, end_line, last_point, line}
 use Rattle.vip_call.proofs.DebugLemmas.{stop_is}
 use Rattle.vip_call.proofs.MetLemmas.{ahead_is, dispatches, is_ahead, met_is, more_moves, next_over, reached_few, within_limit}
+use Rattle.vip_call.proofs.ShownCode.{code_in_memory}
 use Rattle.vip_call.proofs.TranscriptLemmas.{last_is_last, point_of, points_of}
 
 -- ---- dispatch points among some events
@@ -127,6 +129,18 @@ later_than t (c ∷ bs) b j there = by_test (nat_lt t c.cycle) refl j (later_tha
     by_test true less zero others there = let same : c ≡ b = cc in subst (λ (z : Machine). t < z.cycle) same (ltb-true t c.cycle less)
     by_test true less (suc j) others there = others j there
     by_test false more j others there = others j there
+
+-- any of those that a test keeps
+kept : (test : Machine → Bool) (bs : List Machine) (b : Machine) (j : ℕ) → slice_get (filter test bs) j ≡ Some b → Among b bs
+kept test [] b j there = cc
+kept test (c ∷ bs) b j there = by_test (test c) j (kept test bs b) there
+  where
+    by_test :
+        (keep : Bool) (j : ℕ) → ((k : ℕ) → slice_get (filter test bs) k ≡ Some b → Among b bs)
+        → slice_get (cond keep (c ∷ filter test bs) (filter test bs)) j ≡ Some b → Among b (c ∷ bs)
+    by_test true zero others there = record { place = 0; there = there }
+    by_test true (suc j) others there = let a = others j there in record { place = suc a.place; there = a.there }
+    by_test false j others there = let a = others j there in record { place = suc a.place; there = a.there }
 
 -- the stop is the last of some events, in whose cycle the run is over
 pub over_at : (limit : ℕ) (es : List Event) (b : Machine) → NoStop es → end_cycle limit (es ++ Stopped b ∷ []) ≡ b.cycle
@@ -307,7 +321,7 @@ module _
     abbrev made : ℕ
     made = moves_until v t
 
-    stops_at : is_stop i (at_state made) ≡ stops_by e limit points ending over ending t
+    stops_at : is_stop i (at_state made) ≡ stops_by e labels limit points ending over ending t
     stops_at = by_test (is_stop i (at_state end)) refl
       where
         last : ReachedInTime end
@@ -333,16 +347,16 @@ module _
             let same : made ≡ end = omega (arith, few, all) in
             ap (λ k. is_stop i (at_state k)) same ∙ stop ∙ sym (le-leb over t behind)
 
-        by_test : (stop : Bool) → is_stop i (at_state end) ≡ stop → is_stop i (at_state made) ≡ stops_by e limit points ending over ending t
+        by_test : (stop : Bool) → is_stop i (at_state end) ≡ stop → is_stop i (at_state made) ≡ stops_by e labels limit points ending over ending t
         by_test true stop =
             stopped stop (cases_lt t over)
-            ∙ ap (λ z. stops_by e limit points ending over z t) (stop_is e s script begins limit late end last stop)
+            ∙ ap (λ z. stops_by e labels limit points ending over z t) (stop_is e s script begins limit late end last stop)
         by_test false runs =
             running runs (cases_lt made end)
-            ∙ ap (λ z. stops_by e limit points ending over z t) (sym (runs_out runs))
+            ∙ ap (λ z. stops_by e labels limit points ending over z t) (sym (runs_out runs))
 
     -- so its stop is the run's
-    ends_as : ending_where v made ≡ (if stops_by e limit points ending over ending t then ending else AtLimit)
+    ends_as : ending_where v made ≡ (if stops_by e labels limit points ending over ending t then ending else AtLimit)
     ends_as = by_test (is_stop i (at_state made)) refl
       where
         reached_here : ReachedInTime made
@@ -350,7 +364,7 @@ module _
 
         by_test :
             (stop : Bool) → is_stop i (at_state made) ≡ stop
-            → ending_where v made ≡ (if stops_by e limit points ending over ending t then ending else AtLimit)
+            → ending_where v made ≡ (if stops_by e labels limit points ending over ending t then ending else AtLimit)
         by_test true stop =
             ap (λ s. if s then stopped_by (stop_by v made) else AtLimit) stop
             ∙ stop_is e s script begins limit late made reached_here stop
@@ -360,7 +374,7 @@ module _
             ∙ ap (λ s. if s then ending else AtLimit) (sym runs ∙ stops_at)
 
     -- and that is the line that is written there
-    names_stop : (a : Arrival) (lines : List (List ℕ)) → a.place.moves ≡ made → NamesStop e limit points ending over t (lines_at v a lines)
+    names_stop : (a : Arrival) (lines : List (List ℕ)) → a.place.moves ≡ made → NamesStop e labels limit points ending over t (lines_at v a lines)
     unfolding lines_at
     names_stop a lines is stop =
         ap (λ s. if s then stop_text (stop_by v a.place.moves) ∷ [] else if a.completed then lines else (codes "end" ++ newline) ∷ []) stopped
@@ -385,18 +399,33 @@ module _
     met_here : met_at v (place t) ≡ events_to v t
     met_here = take_all (length (events_by v made)) (events_by v made) (omega arith) ∙ by_is
 
-    last_is : last_met e limit points ending over t ≡ option_map (point_of e) (last_dispatch (met_at v (place t)))
+    last_is : last_met e labels limit points ending over t ≡ option_map (point_of e) (last_dispatch (met_at v (place t)))
     last_is =
         ap last_point (filter_points e (λ p. nat_le p.cycle t) (dispatches events))
         ∙ ap (λ bs. last_point (map (point_of e) bs)) (sym (met_is e s script begins limit t behind_start order))
         ∙ last_is_last e (events_to v t)
         ∙ ap (λ es. option_map (point_of e) (last_dispatch es)) (sym met_here)
 
-    ahead_here : ahead e limit points ending over t ≡ map (point_of e) (points_ahead v limit (place t))
+    ahead_here : ahead e labels limit points ending over t ≡ map (point_of e) (points_ahead v limit (place t))
     ahead_here =
         filter_points e (λ p. nat_lt t p.cycle) (dispatches events)
         ∙ ap (map (point_of e))
         (sym (ahead_is e s script begins limit t behind_start order) ∙ ap (λ es. dispatches (drop (length es) events)) (sym by_is))
+
+    -- ---- lines of code
+
+    -- where the board stands at a point, those of its state
+    code_shown :
+        (address count : ℕ) (last : Option Machine) → last_dispatch (events_to v t) ≡ last
+        → ShowsCode e labels limit points ending over address count (option_map (point_of e) last) t
+        (code_lines (clear_byte i.rom (at_state made)) labels address count)
+    code_shown address count None is = tt
+    code_shown address count (Some b) is = λ here from to.
+        let among : Among b (dispatches events) =
+        kept (λ c. nat_le c.cycle t) (dispatches events) b (length (dispatches (events_to v t)) - 1)
+        (sym (ap (λ bs. slice_get bs (length (dispatches (events_to v t)) - 1)) (met_is e s script begins limit t behind_start order)) ∙ is) in
+        let there : at_state made ≡ b = ap (λ c. at_state (moves_until v c)) (sym here) ∙ (found b among).there in
+        ap (λ c. code_lines (clear_byte i.rom c) labels address count) there ∙ code_in_memory e i.rom b labels address count from to
 
   -- ---- a command
 
@@ -406,7 +435,7 @@ module _
     from : (machine_of s).cycle ≤ to
     within : to ≤ limit
     is : place_with v limit c (place t) ≡ place to
-    answers : Answers e limit points ending over c t to (pieces_of labels v limit c (place t))
+    answers : Answers e labels limit points ending over c t to (pieces_of labels v limit c (place t))
 
   -- a command that looks for a dispatch point
   found_here : (b : Machine) → Among b (dispatches events) → seeking_lines v (at_point v limit (Some b)) ≡ line e plain (point_of e b) ∷ []
@@ -443,7 +472,7 @@ module _
     seeks :
         (seeking : Seeking) (j : ℕ) (to : Option Machine) → (sought v limit seeking (place t)) ≡ at_point v limit to
         → to ≡ slice_get (points_ahead v limit (place t)) j
-        → sought_point e limit points ending over seeking t ≡ option_map (point_of e) to → Comes (command.Seeks seeking) t
+        → sought_point e labels limit points ending over seeking t ≡ option_map (point_of e) to → Comes (command.Seeks seeking) t
     seeks seeking j None goes at is = record {
       to = limit;
       from = late;
@@ -451,8 +480,8 @@ module _
       is = ap (λ (a : Arrival). a.place) goes;
       answers =
           subst
-          (λ p. (limit ≡ place_at e limit points ending over t p)
-          × (seeking_lines v (sought v limit seeking (place t)) ≡ found_line e limit points ending over p ∷ []))
+          (λ p. (limit ≡ place_at e labels limit points ending over t p)
+          × (seeking_lines v (sought v limit seeking (place t)) ≡ found_line e labels limit points ending over p ∷ []))
           (sym is) (omega (arith, order), ap (seeking_lines v) goes ∙ end_here);
     }
     seeks seeking j (Some b) goes at is =
@@ -464,8 +493,8 @@ module _
           is = ap (λ (a : Arrival). a.place) goes;
           answers =
               subst
-              (λ p. (b.cycle ≡ place_at e limit points ending over t p)
-              × (seeking_lines v (sought v limit seeking (place t)) ≡ found_line e limit points ending over p ∷ []))
+              (λ p. (b.cycle ≡ place_at e labels limit points ending over t p)
+              × (seeking_lines v (sought v limit seeking (place t)) ≡ found_line e labels limit points ending over p ∷ []))
               (sym is) (refl, ap (seeking_lines v) goes ∙ found_here b a);
         }
 
@@ -480,7 +509,7 @@ module _
     runs :
         (running : Running) (to : ℕ) → (machine_of s).cycle ≤ to → to ≤ limit → moves_until v t + moves running ≡ moves_until v to
         → (place_with v limit (command.Runs running) (place t) ≡ place to)
-        × NamesStop e limit points ending over to (running_lines v limit running (place t))
+        × NamesStop e labels limit points ending over to (running_lines v limit running (place t))
     runs running to from within is =
         let there : moved_on v (moves running) (place t) ≡ place to = moved (moves running) ∙ ap (all_met v) is in
         (there, names_stop to from within (ran v limit running (place t)) _ (ap (λ (p : Place). p.moves) there))
@@ -540,8 +569,8 @@ module _
 
     running_comes :
         (running : Running)
-        → ((to : ℕ) → (t ≤ to) × (to ≤ max t limit) × NamesStop e limit points ending over to (running_lines v limit running (place t))
-        → Answers e limit points ending over (command.Runs running) t to (running_lines v limit running (place t)))
+        → ((to : ℕ) → (t ≤ to) × (to ≤ max t limit) × NamesStop e labels limit points ending over to (running_lines v limit running (place t))
+        → Answers e labels limit points ending over (command.Runs running) t to (running_lines v limit running (place t)))
         → Comes (command.Runs running) t
     running_comes running said =
         let reached : ReachedInTime (moves_until v t + moves running) =
@@ -569,7 +598,20 @@ module _
     comes (command.Runs (At address)) = running_comes (At address) (λ to a. a)
     comes (command.Runs (Watch address count)) = running_comes (Watch address count) (λ to a. a)
     comes (command.Shows showing) = record { to = t; from = behind_start; within = order; is = refl; answers = refl }
-    comes (command.Tells (Code address count)) = record { to = t; from = behind_start; within = order; is = refl; answers = refl }
+    comes (command.Tells (Code address count)) =
+        record {
+          to = t;
+          from = behind_start;
+          within = order;
+          is = refl;
+          answers = (
+            refl,
+            subst
+                (λ last. ShowsCode e labels limit points ending over address count last t (told labels v (Code address count) (place t)))
+                (ap (λ es. option_map (point_of e) (last_dispatch es)) (sym (met_here t behind_start order)) ∙ sym (last_is t behind_start order))
+                (code_shown t behind_start order address count (last_dispatch (events_to v t)) refl),
+          );
+        }
     comes (command.Seeks (Next n)) =
         seeks (Next n) (n - 1) (slice_get (points_ahead v limit (place t)) (n - 1)) refl refl
         (ap (λ ps. slice_get ps (n - 1)) (ahead_here t behind_start order) ∙ slice_get-map (point_of e) (points_ahead v limit (place t)) (n - 1))
@@ -584,12 +626,12 @@ module _
           is = refl;
           answers = (
             refl,
-            ap (λ s. s ∷ []) (states (last_dispatch (met_at v (place t))) ∙ ap (state_text e limit points ending over) (sym (last_is t behind_start order))),
+            ap (λ s. s ∷ []) (states (last_dispatch (met_at v (place t))) ∙ ap (state_text e labels limit points ending over) (sym (last_is t behind_start order))),
           );
         }
       where
         states : (last : Option Machine) → option_map_or (trace_line timed) (option_map (view_at e) last) (codes "none" ++ newline)
-            ≡ state_text e limit points ending over (option_map (point_of e) last)
+            ≡ state_text e labels limit points ending over (option_map (point_of e) last)
         states None = refl
         states (Some b) = refl
     comes (command.Tells Screen) =
@@ -600,12 +642,12 @@ module _
           is = refl;
           answers = (
             refl,
-            ap (λ s. s ∷ []) (screens (last_dispatch (met_at v (place t))) ∙ ap (screen_text e limit points ending over) (sym (last_is t behind_start order))),
+            ap (λ s. s ∷ []) (screens (last_dispatch (met_at v (place t))) ∙ ap (screen_text e labels limit points ending over) (sym (last_is t behind_start order))),
           );
         }
       where
         screens : (last : Option Machine) → screen_lines (pixels (rows_of e) (option_map_or (screen_bytes e) last (replicate (screen_size e) 0))) (rows_of e)
-            ≡ screen_text e limit points ending over (option_map (point_of e) last)
+            ≡ screen_text e labels limit points ending over (option_map (point_of e) last)
         screens None = ap (λ s. screen_lines s (rows_of e)) (dark (rows_of e) (screen_size e))
         screens (Some b) = refl
 
@@ -613,7 +655,7 @@ module _
 
   answered :
       (commands : List Spoken) (t : ℕ) → (machine_of s).cycle ≤ t → t ≤ limit
-      → AllAnswered e limit points ending over (ending_where v (place_after v limit commands (place t)).moves) commands t
+      → AllAnswered e labels limit points ending over (ending_where v (place_after v limit commands (place t)).moves) commands t
       (written labels v limit commands (place t))
   answered [] t behind_start order = (refl, ends_as t behind_start order)
   answered (c ∷ commands) t behind_start order =
@@ -626,7 +668,7 @@ module _
         answers = a.answers;
         others =
             subst
-            (λ p. AllAnswered e limit points ending over (ending_where v (place_after v limit commands p).moves) commands a.to
+            (λ p. AllAnswered e labels limit points ending over (ending_where v (place_after v limit commands p).moves) commands a.to
             (written labels v limit commands p))
             (sym a.is) (answered commands a.to a.from a.within);
       }
@@ -647,10 +689,10 @@ module _
 
   pub answers :
       (commands : List Spoken)
-      → AllAnswered e limit points ending over (debug_ending v limit commands) commands (machine_of s).cycle (written labels v limit commands (at_start v))
+      → AllAnswered e labels limit points ending over (debug_ending v limit commands) commands (machine_of s).cycle (written labels v limit commands (at_start v))
   answers commands =
       subst
-      (λ p. AllAnswered e limit points ending over (ending_where v (place_after v limit commands p).moves) commands (machine_of s).cycle
+      (λ p. AllAnswered e labels limit points ending over (ending_where v (place_after v limit commands p).moves) commands (machine_of s).cycle
       (written labels v limit commands p))
       (sym starts) (answered commands (machine_of s).cycle (omega arith) late)
 

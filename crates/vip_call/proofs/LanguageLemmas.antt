@@ -1,5 +1,5 @@
 -- The run from a start is a run of CHIP-8 with its ending, by the law of every run.
-use Rattle.std.proofs.Common.{◌≡◌, ◌⊎◌, ℕ, List, [], ◌∷◌, ◌++◌, Option, Some, None, Ok, ap, refl, inl, inr, ◌∙◌}
+use Rattle.std.proofs.Common.{ℕ, List, [], ◌∷◌, ◌++◌, Option, refl}
 use Rattle.machine.specs.Board.{Machine}
 use Rattle.machine.specs.Keys.{Event as KeyEvent}
 use Rattle.machine.specs.Pictures.{windows_ended}
@@ -12,30 +12,22 @@ use Rattle.rom_board.specs.Frames.{KeepsFrames}
 use Rattle.rom_board.specs.Laws.{EveryFrame, EveryRun}
 use Rattle.rom_board.specs.Program.{numbered, program}
 use Rattle.vip_relation.specs.Follows.{Fits}
-use Rattle.vip_relation.specs.State.{Start, begun, machine_of}
+use Rattle.vip_relation.specs.State.{Start, machine_of}
 use Rattle.vip_relation.specs.State.Start.{Reset, Saved}
-use Rattle.vip_relation.proofs.Beginning.{begins-running}
 use Rattle.vip_show.specs.Endings.{ending_after, ending_of}
-use Rattle.vip_text.specs.Endings.{Ending}
-use Rattle.vip_text.specs.Endings.Ending.{AtLimit}
 use Rattle.vip_text.specs.StateFile.{shown}
 use Rattle.vip_words.specs.declared.request.Request.TheVariants as request
 use Rattle.vip_words.specs.declared.request.Show.{Show}
 use Rattle.vip_words.specs.declared.request.Show.TheVariants as show
 use Rattle.vip_tools.specs.Files.{Loaded, needed, script_files, show_files}
-use Rattle.vip_call.specs.Language.{named, IsChip8, IsEndOf, RunIsChip8, ShowsChip8}
+use Rattle.vip_call.specs.Language.{named, IsChip8, RunIsChip8, ShowsChip8}
 use Rattle.vip_tools.specs.Judged.Verdict.{Given}
-use Rattle.vip_tools.specs.Outcome.{Output, script_in}
-use Rattle.vip_tools.specs.Report.{end_report}
-use Rattle.vip_tools.specs.Status.{end_status}
-use Rattle.vip_tools.proofs.JudgedLemmas.{same_value}
+use Rattle.vip_tools.specs.Outcome.{Outcome, Output}
 use Rattle.vip_tools.specs.Code.{Known}
-use Rattle.vip_verbs.specs.Outcome.{known_in, HasOutcome, RunTo, ShowComes, run_of, events_in, ran, run_ending, debug_ending, limit_from, pieces_of, ran_with}
+use Rattle.vip_verbs.specs.Outcome.{known_in, HasOutcome, RunTo, ShowComes, events_in, run_ending, run_of}
 use Rattle.vip_call.specs.Top.{Call, SpeaksChip8}
-use Rattle.vip_call.proofs.DebugLemmas.{debug_ends}
 use Rattle.vip_call.proofs.FilledLemmas.{AreGiven, are_given}
 use Rattle.vip_call.proofs.GivenStarts.{begun_so}
-use Rattle.vip_call.proofs.LimitLemmas.{late_limit, same_ending}
 use Rattle.vip_call.proofs.ResumedLemmas.{FramesFromFile, FromFile, goes_on}
 
 -- ---- the ending by the events of a run
@@ -71,58 +63,26 @@ module _ (law : EveryRun) (from : FromFile) (frames : EveryFrame) (frames_from :
   keeps_frames e (Reset game) fits script = frames e game fits.fits fits.bytes script
   keeps_frames e (Saved f) fits script = frames_from e f fits.bytes fits.accepted script
 
-  module _ (e : Edition) (s : Start) (fits : Fits e s) (keys : Option (List ℕ)) (limit : ℕ) (asked_show : Show (List ℕ)) (output : Output) where
-    -- the end that is told
-    told_run :
-        (script : List KeyEvent) → script_in keys ≡ Ok script → (pieces : List (List ℕ)) (told : Ending) → IsEndOf asked_show (run_ending e s script limit) told
-        → Given output ≡ ran limit pieces told → RunIsChip8 e s keys limit asked_show output.status output.report
-    told_run script reads pieces told ends is =
-        let same = same_value output (record { pieces = pieces; status = end_status told; report = end_report limit told }) is in
-        record {
-          script = script;
-          reads = reads;
-          run = is_chip8 law from e s fits script limit;
-          frames = keeps_frames e s fits script;
-          reported = told;
-          ends = ends;
-          status_is = ap (λ o. o.status) same;
-          report_is = ap (λ o. o.report) same;
-        }
-
-    shows_run :
-        (pieces : List KeyEvent → List (List ℕ)) (told : List KeyEvent → Ending)
-        → ((script : List KeyEvent) → IsEndOf asked_show (run_ending e s script limit) (told script))
-        → RunTo e keys (λ script. ran limit (pieces script) (told script)) (Given output) → RunIsChip8 e s keys limit asked_show output.status output.report
-    shows_run pieces told ends comes = told_run comes.value comes.gives (pieces comes.value) (told comes.value) (ends comes.value) comes.here.here
-
-    -- what is shown without the debugger
-    shows_plain :
-        (script : List KeyEvent) → script_in keys ≡ Ok script → IsEndOf asked_show (run_ending e s script limit) (run_ending e s script limit)
-        → (pieces : Option (List (List ℕ))) → Given output ≡ ran_with limit (run_ending e s script limit) pieces
-        → RunIsChip8 e s keys limit asked_show output.status output.report
-    shows_plain script reads ends None is = absurd (cc)
-    shows_plain script reads ends (Some pieces) is = told_run script reads pieces (run_ending e s script limit) ends is
+  -- whatever comes of a script, the run is one of CHIP-8
+  of_run :
+      (e : Edition) (s : Start) → Fits e s → (keys : Option (List ℕ)) (limit : ℕ) (outcome : List KeyEvent → Outcome) (output : Output)
+      → RunTo e keys outcome (Given output) → RunIsChip8 e s keys limit
+  of_run e s fits keys limit outcome output comes = record {
+    script = comes.value;
+    reads = comes.gives;
+    run = is_chip8 law from e s fits comes.value limit;
+    frames = keeps_frames e s fits comes.value;
+  }
 
   shows_as :
-      (known : Known) (e : Edition) (s : Start) (fits : Fits e s) (keys : Option (List ℕ)) (limit : ℕ) (shown_as : Show (List ℕ)) (output : Output)
-      → ShowComes known e s keys limit shown_as (Given output) → RunIsChip8 e s keys limit shown_as output.status output.report
-  shows_as known e s fits keys limit (show.Commands text echo) output comes =
-      let commands = comes.value in
-      shows_run e s fits keys limit (show.Commands text echo) output _ (λ script. debug_ending (begun e s script) (limit_from s limit) commands)
-      (λ script. ends script (debug_ends e s script (begins-running e s fits) (limit_from s limit) (late_limit s limit) commands)) comes.here
-    where
-      ends :
-          (script : List KeyEvent)
-          → let z = debug_ending (begun e s script) (limit_from s limit) comes.value in
-          (z ≡ AtLimit) ⊎ (z ≡ run_ending e s script (limit_from s limit)) → (z ≡ AtLimit) ⊎ (z ≡ run_ending e s script limit)
-      ends script (inl is) = inl is
-      ends script (inr is) = inr (is ∙ same_ending e s script limit)
-  shows_as known e s fits keys limit (show.Plain shown) output comes =
-      shows_plain e s fits keys limit (show.Plain shown) output comes.value comes.gives refl (pieces_of shown e s comes.value limit) comes.here.here
+      (known : Known) (e : Edition) (s : Start) → Fits e s → (keys : Option (List ℕ)) (limit : ℕ) (shown_as : Show (List ℕ)) (output : Output)
+      → ShowComes known e s keys limit shown_as (Given output) → RunIsChip8 e s keys limit
+  shows_as known e s fits keys limit (show.Commands text echo) output comes = of_run e s fits keys limit _ output comes.here
+  shows_as known e s fits keys limit (show.Plain shown) output comes = of_run e s fits keys limit _ output comes
 
-  shows : (loaded : Loaded) (output : Output) → AreGiven (needed loaded) → HasOutcome loaded (Given output) → ShowsChip8 loaded output.status output.report
+  shows : (loaded : Loaded) (output : Output) → AreGiven (needed loaded) → HasOutcome loaded (Given output) → ShowsChip8 loaded
   shows (request.Run run) output given comes =
-      begun_so output (λ e s. ShowComes (known_in run.start) e s run.keys run.limit run.show) (λ e s. RunIsChip8 e s run.keys run.limit run.show output.status output.report)
+      begun_so output (λ e s. ShowComes (known_in run.start) e s run.keys run.limit run.show) (λ e s. RunIsChip8 e s run.keys run.limit)
       (λ e s fits comes. shows_as _ e s fits run.keys run.limit run.show output comes)
       run.start (show_files run.show ++ script_files run.keys) given comes
   shows _ output given comes = tt

@@ -1,5 +1,7 @@
 mod FilledLemmas
 mod GivenStarts
+mod AskedLemmas
+mod ShownCode
 mod LimitLemmas
 mod DebugLemmas
 mod LanguageLemmas

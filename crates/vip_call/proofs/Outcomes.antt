@@ -1,5 +1,5 @@
 -- What a request comes to is one outcome; which statuses come, and who may give up. Each source gives its ROM, so no ROM is refused.
-use Rattle.std.proofs.Common.{◌≡◌, ◌≤◌, ℕ, Bool, List, [], ◌∷◌, length, inl, inr, refl, sym, subst, ◌∙◌, arith, Option, Some, None, Ok, Err}
+use Rattle.std.proofs.Common.{◌≡◌, ◌≤◌, ℕ, Bool, List, [], ◌∷◌, ◌++◌, length, inl, inr, refl, sym, subst, ◌∙◌, arith, Option, Some, None, Ok, Err}
 use Rattle.machine.specs.Keys.{Event as KeyEvent}
 use Rattle.chip8_lang.specs.State.{memory_size}
 use Rattle.chip8_lang.specs.declared.view.Edition.{Edition}
@@ -34,7 +34,9 @@ use Rattle.vip_link.specs.Roms.{sender_rom, receiver_rom, sender_text, receiver_
 use Rattle.vip_program.specs.Program.{started}
 use Rattle.vip_relation.specs.State.{Start}
 use Rattle.vip_relation.specs.State.Start.{Reset}
+use Rattle.vip_relation.specs.Follows.{Fits}
 use Rattle.vip_show.proofs.OneAnswer.{one_edition}
+use Rattle.vip_show.specs.StateOutput.{saved_file}
 use Rattle.vip_text.specs.Endings.{Ending}
 use Rattle.vip_text.specs.Endings.Ending.{AtLimit, AtStop}
 use Rattle.vip_words.specs.DebugGrammar.{commands_of}
@@ -45,6 +47,8 @@ use Rattle.vip_words.specs.declared.request.Code.{Code}
 use Rattle.vip_words.specs.declared.request.Code.TheVariants.{Bytes, Source}
 use Rattle.vip_words.specs.declared.request.Entry.{Entry}
 use Rattle.vip_words.specs.declared.request.Memory.{Memory}
+use Rattle.vip_words.specs.declared.request.OwnText.TheVariants as own
+use Rattle.vip_words.specs.declared.request.PlainShow.TheVariants as plain
 use Rattle.vip_words.specs.declared.request.ProgramShow.{ProgramShow}
 use Rattle.vip_words.specs.declared.request.ProgramShow.TheVariants as program_show
 use Rattle.vip_words.specs.declared.request.Request.TheVariants as request
@@ -56,7 +60,7 @@ use Rattle.vip_words.specs.declared.request.TextVerb.{TextVerb}
 use Rattle.vip_words.specs.declared.request.TextVerb.TheVariants as text
 use Rattle.vip_tools.specs.Certificates.{EntryComes, ProofComes, ProofFound, RoutineComes, RoutineFound, SafeComes, CertifyComes, CyclesComes, SourceRom, TimingComes, cert_refusal, count_line, exits_asked, find_refusal, proof_refusal, rom_in, routine_text, timing_refusal}
 use Rattle.vip_tools.specs.Code.{FitComes, GameComes, ImageComes, IsFitGame, IsLarge, Known, LaidComes, known_of}
-use Rattle.vip_tools.specs.Files.{Loaded}
+use Rattle.vip_tools.specs.Files.{Loaded, needed, script_files, show_files}
 use Rattle.vip_tools.specs.Judged.{Judged, bind, cause_of, each, judged, only}
 use Rattle.vip_tools.specs.Judged.Cause.{Fault}
 use Rattle.vip_tools.specs.Judged.Verdict.{Given, Refused, GivenUp}
@@ -67,12 +71,15 @@ use Rattle.asm_listing.specs.Listing.{IsListing}
 use Rattle.vip_tools.specs.Status.{end_status}
 use Rattle.vip_tools.specs.declared.refusal.Refusal.{Refusal}
 use Rattle.vip_tools.specs.declared.status.Status.{Status}
-use Rattle.vip_tools.specs.declared.status.Status.TheVariants.{BadSource, Done}
+use Rattle.vip_tools.specs.declared.status.Status.TheVariants.{BadSource, Done, NoDispatch}
 use Rattle.vip_tools.proofs.CodeLemmas.{one_game}
 use Rattle.vip_tools.proofs.JudgedLemmas.{Agree, AgreeOn, AllSound, Any, IsFine, Sound, alone_agree, alone_sound, bind_agree, bind_sound, each_agree, each_sound, judged_agree, judged_sound, only_agree, result_agree, same_agree, search_agree}
-use Rattle.vip_verbs.specs.Outcome.{HasOutcome, IsSavedIn, LinkRomsCome, RomComes, RomIs, RunStart, RunTo, ShowComes, StartComes, TextVerbComes, known_in, linked, linked_after, pieces_of, ran_with, run_ending}
+use Rattle.vip_verbs.specs.Outcome.{HasOutcome, IsSavedIn, LinkRomsCome, RomComes, RomIs, RunStart, RunTo, ShowComes, StartComes, TextVerbComes, events_in, known_in, linked, linked_after, pieces_of, ran_with, run_ending, saved_pieces, shown_by}
 use Rattle.vip_verbs.specs.Programs.{ProgramComes, ProgramShowComes, memory_in, program_debugged, program_pictured, program_traced}
 use Rattle.vip_call.specs.Top.{IsCheck, IsOfRom, IsSearch}
+use Rattle.vip_call.specs.Transcribed.{LacksPoint, SavesNone}
+use Rattle.vip_call.proofs.FilledLemmas.{AreGiven}
+use Rattle.vip_call.proofs.GivenStarts.{from_start, start_fits}
 
 pub record RomsGiven : Type 0 where
   pub games : (e : Edition) → RomIs e (Ok tt)
@@ -261,20 +268,25 @@ program_show_once known memory rom ram keys limit (program_show.Commands text ec
 
 -- ---- which statuses come
 
--- none is that of a ROM
-abbrev IsDue : Status → Type 0
-IsDue status = ¬ IsOfRom status
+-- a run is to be saved
+abbrev pub IsSave : Loaded → Type 0
+IsSave (request.Run run) = run.show ≡ show.Plain plain.State
+IsSave _ = ⊥
+
+-- none is that of a ROM, and that there is no dispatch point comes only where a run is to be saved
+abbrev IsDue : Loaded → Status → Type 0
+IsDue loaded status = (¬ IsOfRom status) × (status ≡ NoDispatch → IsSave loaded)
 
 -- output ends with a fault of a source only where that is checked, and only a search gives up
 abbrev EndsWell : Loaded → Output → Type 0
 EndsWell loaded output = output.status ≡ BadSource → IsCheck loaded
 
 abbrev Free : Loaded → Judged Output → Type 0
-Free loaded = AllSound IsDue (EndsWell loaded) (IsSearch loaded)
+Free loaded = AllSound (IsDue loaded) (EndsWell loaded) (IsSearch loaded)
 
 -- a judgement of a part
 abbrev FreePart : Loaded → {A : Type 0} → Judged A → Type 0
-FreePart loaded = AllSound IsDue (λ _. Unit {0}) (IsSearch loaded)
+FreePart loaded = AllSound (IsDue loaded) (λ _. Unit {0}) (IsSearch loaded)
 
 module _ (given : RomsGiven) where
   rom_never : (e : Edition) (f : ImageFault) → RomIs e (Err f) → (status : Status) (report : List ℕ) → cause_of (rom_refusal f) ≡ Fault status report → ⊥
@@ -329,46 +341,46 @@ module _ (given : RomsGiven) where
 
   module _ (loaded : Loaded) where
     free_behind : {A : Type 0} (J : Judged A) (K : A → Judged Output) → FreePart loaded J → ((a : A) → Free loaded (K a)) → Free loaded (bind J K)
-    free_behind J K first rest = bind_sound IsDue (λ _. Unit {0}) (EndsWell loaded) (IsSearch loaded) J K first rest
+    free_behind J K first rest = bind_sound (IsDue loaded) (λ _. Unit {0}) (EndsWell loaded) (IsSearch loaded) J K first rest
 
     part_behind : {A B : Type 0} (J : Judged A) (K : A → Judged B) → FreePart loaded J → ((a : A) → FreePart loaded (K a)) → FreePart loaded (bind J K)
-    part_behind J K first rest = bind_sound IsDue (λ _. Unit {0}) (λ _. Unit {0}) (IsSearch loaded) J K first rest
+    part_behind J K first rest = bind_sound (IsDue loaded) (λ _. Unit {0}) (λ _. Unit {0}) (IsSearch loaded) J K first rest
 
-    part : {A F : Type 0} (Is : A → Type 0) (IsFault : F → Type 0) (told : F → Refusal) → ((f : F) → IsFault f → IsFine IsDue (IsSearch loaded) (cause_of (told f)))
+    part : {A F : Type 0} (Is : A → Type 0) (IsFault : F → Type 0) (told : F → Refusal) → ((f : F) → IsFault f → IsFine (IsDue loaded) (IsSearch loaded) (cause_of (told f)))
         → FreePart loaded (judged Is IsFault told)
-    part Is IsFault told fine = judged_sound IsDue (λ _. Unit {0}) (IsSearch loaded) Is IsFault told (λ a x. tt) fine
+    part Is IsFault told fine = judged_sound (IsDue loaded) (λ _. Unit {0}) (IsSearch loaded) Is IsFault told (λ a x. tt) fine
 
     any_part : {A : Type 0} (P : A → Type 0) → FreePart loaded (each P)
-    any_part P = each_sound IsDue (λ _. Unit {0}) (IsSearch loaded) P (λ a x. tt)
+    any_part P = each_sound (IsDue loaded) (λ _. Unit {0}) (IsSearch loaded) P (λ a x. tt)
 
-    ends_free : (o : Outcome) → Sound IsDue (EndsWell loaded) (IsSearch loaded) o → Free loaded (Ends o)
-    ends_free o sound v is = alone_sound IsDue (EndsWell loaded) (IsSearch loaded) o v sound is
+    ends_free : (o : Outcome) → Sound (IsDue loaded) (EndsWell loaded) (IsSearch loaded) o → Free loaded (Ends o)
+    ends_free o sound v is = alone_sound (IsDue loaded) (EndsWell loaded) (IsSearch loaded) o v sound is
 
     writes_free : (text : List ℕ) → Free loaded (Writes text)
     writes_free text = ends_free (Shown (text ∷ []) Done []) (λ bad. absurd (cc))
 
-    script_fine : (f : ScriptFault) → IsFine IsDue (IsSearch loaded) (cause_of (script_refusal f))
-    script_fine (script.Fault line cause) = λ x. x
+    script_fine : (f : ScriptFault) → IsFine (IsDue loaded) (IsSearch loaded) (cause_of (script_refusal f))
+    script_fine (script.Fault line cause) = (λ x. x, λ is. absurd (cc))
     script_fine script.NoMemory = tt
 
-    command_fine : (f : CommandFault) → IsFine IsDue (IsSearch loaded) (cause_of (command_refusal f))
-    command_fine (command.Fault line cause) = λ x. x
+    command_fine : (f : CommandFault) → IsFine (IsDue loaded) (IsSearch loaded) (cause_of (command_refusal f))
+    command_fine (command.Fault line cause) = (λ x. x, λ is. absurd (cc))
     command_fine command.NoMemory = tt
 
-    source_fine : (f : AsmFault) → IsFine IsDue (IsSearch loaded) (cause_of (source_refusal f))
-    source_fine (asm.Fault line cause) = λ x. x
+    source_fine : (f : AsmFault) → IsFine (IsDue loaded) (IsSearch loaded) (cause_of (source_refusal f))
+    source_fine (asm.Fault line cause) = (λ x. x, λ is. absurd (cc))
     source_fine asm.NoMemory = tt
 
-    cert_fine : (f : CertFault) → IsFine IsDue (IsSearch loaded) (cause_of (cert_refusal f))
-    cert_fine (cert.Fault line cause) = λ x. x
+    cert_fine : (f : CertFault) → IsFine (IsDue loaded) (IsSearch loaded) (cause_of (cert_refusal f))
+    cert_fine (cert.Fault line cause) = (λ x. x, λ is. absurd (cc))
     cert_fine cert.NoMemory = tt
 
-    proof_fine : (f : ProofFault) → IsFine IsDue (IsSearch loaded) (cause_of (proof_refusal f))
-    proof_fine (proof.Fault line cause) = λ x. x
+    proof_fine : (f : ProofFault) → IsFine (IsDue loaded) (IsSearch loaded) (cause_of (proof_refusal f))
+    proof_fine (proof.Fault line cause) = (λ x. x, λ is. absurd (cc))
     proof_fine proof.NoMemory = tt
 
     rom_fine : (f : ImageFault) → ((status : Status) (report : List ℕ) → cause_of (rom_refusal f) ≡ Fault status report → ⊥)
-        → IsFine IsDue (IsSearch loaded) (cause_of (rom_refusal f))
+        → IsFine (IsDue loaded) (IsSearch loaded) (cause_of (rom_refusal f))
     rom_fine image.NoMemory never = tt
     rom_fine (image.BadRomSource line cause) never = absurd (never _ _ refl)
     rom_fine (image.RomDiffers address assembled here) never = absurd (never _ _ refl)
@@ -388,12 +400,12 @@ module _ (given : RomsGiven) where
 
     game_free : (e : Edition) (code : Code (List ℕ)) → FreePart loaded (GameComes e code)
     game_free e (Bytes game) = any_part _
-    game_free e (Source text) = part_behind (SourceComes Chip8Words text) (FitComes e) (source_free Chip8Words text) (λ made. part _ _ _ (λ f x y. y))
+    game_free e (Source text) = part_behind (SourceComes Chip8Words text) (FitComes e) (source_free Chip8Words text) (λ made. part _ _ _ (λ f x. (λ y. y, λ is. absurd (cc))))
 
     image_free : (memory : Memory) (code : Code (List ℕ)) → FreePart loaded (ImageComes memory code)
     image_free memory (Bytes bytes) = any_part _
     image_free memory (Source text) =
-        part_behind (SourceComes Cdp1802 text) (λ made. LaidComes text) (source_free Cdp1802 text) (λ made. part _ _ _ (λ f x y. y))
+        part_behind (SourceComes Cdp1802 text) (λ made. LaidComes text) (source_free Cdp1802 text) (λ made. part _ _ _ (λ f x. (λ y. y, λ is. absurd (cc))))
 
     start_free : (start : asked.Start (List ℕ)) → FreePart loaded (StartComes start)
     start_free (beginning.Game code edition) = part_behind (GameComes edition code) _ (game_free edition code) (λ game. any_part _)
@@ -404,24 +416,30 @@ module _ (given : RomsGiven) where
     run_ends AtLimit bad = absurd (cc)
     run_ends (AtStop stop pc opcode) bad = absurd (cc)
 
-    ran_sound : (limit : ℕ) (ending : Ending) (pieces : Option (List (List ℕ))) → Sound IsDue (EndsWell loaded) (IsSearch loaded) (ran_with limit ending pieces)
-    ran_sound limit ending None = λ x. x
-    ran_sound limit ending (Some pieces) = run_ends ending
+    state_sound :
+        IsSave loaded → (limit : ℕ) (ending : Ending) (pieces : Option (List (List ℕ))) → Sound (IsDue loaded) (EndsWell loaded) (IsSearch loaded) (ran_with limit ending pieces)
+    state_sound save limit ending None = (λ x. x, λ is. save)
+    state_sound save limit ending (Some pieces) = run_ends ending
 
     run_free : (e : Edition) (keys : Option (List ℕ)) (outcome : List KeyEvent → Outcome)
-        → ((script : List KeyEvent) → Sound IsDue (EndsWell loaded) (IsSearch loaded) (outcome script)) → Free loaded (RunTo e keys outcome)
+        → ((script : List KeyEvent) → Sound (IsDue loaded) (EndsWell loaded) (IsSearch loaded) (outcome script)) → Free loaded (RunTo e keys outcome)
     run_free e keys outcome sound =
         free_behind (ScriptComes keys) _ (script_free keys)
         (λ script. free_behind (RomComes e) _ (part _ _ rom_refusal (λ f x. rom_fine f (rom_never e f x))) (λ _. ends_free (outcome script) (sound script)))
 
-    show_free : (known : Known) (e : Edition) (s : Start) (keys : Option (List ℕ)) (limit : ℕ) (shown : Show (List ℕ)) → Free loaded (ShowComes known e s keys limit shown)
-    show_free known e s keys limit (show.Commands text echo) =
+    show_free : (known : Known) (e : Edition) (s : Start) (keys : Option (List ℕ)) (limit : ℕ) (shown : Show (List ℕ))
+        → (shown ≡ show.Plain plain.State → IsSave loaded) → Free loaded (ShowComes known e s keys limit shown)
+    show_free known e s keys limit (show.Commands text echo) saves =
         free_behind (CommandsCome Chip8 known.names echo limit text) _ (part _ _ command_refusal (λ f x. command_fine f)) (λ commands. run_free e keys _ (λ script. run_ends _))
-    show_free known e s keys limit (show.Plain shown) =
-        run_free e keys _ (λ script. ran_sound limit (run_ending e s script limit) (pieces_of shown e s script limit))
+    show_free known e s keys limit (show.Plain plain.State) saves =
+        run_free e keys _ (λ script. state_sound (saves refl) limit (run_ending e s script limit) (pieces_of plain.State e s script limit))
+    show_free known e s keys limit (show.Plain (plain.Trace columns)) saves = run_free e keys _ (λ script. run_ends (run_ending e s script limit))
+    show_free known e s keys limit (show.Plain plain.Pictures) saves = run_free e keys _ (λ script. run_ends (run_ending e s script limit))
+    show_free known e s keys limit (show.Plain plain.Profile) saves = run_free e keys _ (λ script. run_ends (run_ending e s script limit))
+    show_free known e s keys limit (show.Plain (plain.Summary number)) saves = run_free e keys _ (λ script. run_ends (run_ending e s script limit))
 
     program_free : (memory : Memory) (rom ram : List ℕ) (keys : Option (List ℕ)) (outcome : Seen → Outcome)
-        → ((board : Seen) → Sound IsDue (EndsWell loaded) (IsSearch loaded) (outcome board)) → Free loaded (ProgramComes memory rom ram keys outcome)
+        → ((board : Seen) → Sound (IsDue loaded) (EndsWell loaded) (IsSearch loaded) (outcome board)) → Free loaded (ProgramComes memory rom ram keys outcome)
     program_free memory rom ram keys outcome sound = free_behind (ScriptComes keys) _ (script_free keys) (λ script. ends_free _ (sound _))
 
     program_show_free : (known : Known) (memory : Memory) (rom ram : List ℕ) (keys : Option (List ℕ)) (limit : ℕ) (shown : ProgramShow (List ℕ))
@@ -445,13 +463,13 @@ module _ (given : RomsGiven) where
       (λ made. free_behind l (EntryComes made.made entry) _ (part l _ _ _ (λ f x. tt))
       (λ address. free_behind l (RoutineFound (rom_in source) address p k) Writes (part l _ _ timing_refusal (λ f x. timing_fine f)) (writes_free l)))
     where
-      timing_fine : (f : TimingFault) → IsFine IsDue (Unit {0}) (cause_of (timing_refusal f))
+      timing_fine : (f : TimingFault) → IsFine (IsDue (request.Text (text.Timing entry p k) source)) (Unit {0}) (cause_of (timing_refusal f))
       timing_fine (timing.NotFound obstacle) = tt
       timing_fine timing.NoMemory = tt
 
   pub free : (loaded : Loaded) → Free loaded (HasOutcome loaded)
   free (request.Run run) =
-      let l = request.Run run in free_behind l (StartComes run.start) _ (start_free l run.start) (λ s. show_free l (known_in run.start) s.edition s.start run.keys run.limit run.show)
+      let l = request.Run run in free_behind l (StartComes run.start) _ (start_free l run.start) (λ s. show_free l (known_in run.start) s.edition s.start run.keys run.limit run.show (λ is. is))
   free (request.Program run) =
       let l = request.Program run in
       free_behind l (ImageComes run.memory run.code) _ (image_free l run.memory run.code)
@@ -473,7 +491,53 @@ module _ (given : RomsGiven) where
       free_behind l (GameComes edition code) _ (game_free l edition code)
       (λ game. free_behind l (ProofFound edition game) Writes (part l _ _ find_refusal (λ f x. find_fine f)) (writes_free l))
     where
-      find_fine : (f : FindFault) → IsFine IsDue (Unit {0}) (cause_of (find_refusal f))
+      find_fine : (f : FindFault) → IsFine (IsDue (request.Certify code edition)) (Unit {0}) (cause_of (find_refusal f))
       find_fine (find.NotFound obstacle) = tt
       find_fine find.NoMemory = tt
   free loaded = writes_free loaded _
+
+  -- ---- a run without a point
+
+  -- what isn't saved
+  abbrev other : Loaded
+  other = request.Own own.Version
+
+  -- what is said of a run without a point to be saved
+  abbrev pub LawOfNone : Type 0
+  LawOfNone =
+      (e : Edition) (s : Start) → Fits e s → (script : List KeyEvent) (limit : ℕ) → saved_file e (events_in e s script limit) ≡ None → LacksPoint limit s
+
+  -- that there is no dispatch point comes of a run that is to be saved, and has none
+  pub unsaved :
+      LawOfNone → (loaded : Loaded) (report : List ℕ) → AreGiven (needed loaded) → HasOutcome loaded (Refused NoDispatch report) → SavesNone loaded
+  unsaved lacks loaded report given comes = of_save loaded given comes ((free loaded (Refused NoDispatch report) comes).1 refl)
+    where
+      no_file : (limit : ℕ) (ending : Ending) (file : Option (List ℕ)) → Refused NoDispatch report ≡ ran_with limit ending (saved_pieces file) → file ≡ None
+      no_file limit ending None is = refl
+      no_file limit ending (Some file) is = absurd (cc)
+
+      of_run : (e : Edition) (s : Start) → Fits e s → (keys : Option (List ℕ)) (limit : ℕ)
+          → RunTo e keys (λ script. shown_by plain.State e s script limit) (Refused NoDispatch report) → LacksPoint limit s
+      of_run e s fits keys limit (inl x) = absurd ((script_free other keys (Refused NoDispatch report) x).1 refl)
+      of_run e s fits keys limit (inr x) = behind_rom x.here
+        where
+          behind_rom : bind (RomComes e) (λ _. Ends (shown_by plain.State e s x.value limit)) (Refused NoDispatch report) → LacksPoint limit s
+          behind_rom (inl y) = absurd (rom_never e y.fault y.is NoDispatch report y.tells)
+          behind_rom (inr y) = lacks e s fits x.value limit (no_file limit (run_ending e s x.value limit) (saved_file e (events_in e s x.value limit)) y.here)
+
+      of_save : (loaded : Loaded) → AreGiven (needed loaded) → HasOutcome loaded (Refused NoDispatch report) → IsSave loaded → SavesNone loaded
+      of_save (request.Run run) given (inl x) is = absurd ((start_free other run.start (Refused NoDispatch report) x).1 refl)
+      of_save (request.Run run) given (inr x) is = (
+        is,
+        from_start (λ e s. LacksPoint run.limit s) run.start
+            (record {
+              value = x.value;
+              gives = x.gives;
+              here =
+                  of_run x.value.edition x.value.start
+                  (start_fits run.start (show_files run.show ++ script_files run.keys) given x.value x.gives)
+                  run.keys run.limit
+                  (subst (λ z. ShowComes (known_in run.start) x.value.edition x.value.start run.keys run.limit z (Refused NoDispatch report)) is x.here);
+            }),
+      )
+      of_save _ given comes is = absurd is

@@ -34,7 +34,7 @@ use Rattle.vip_words.specs.declared.request.Request.TheVariants as request
 use Rattle.vip_words.specs.declared.request.Show.{Show}
 use Rattle.vip_words.specs.declared.request.PlainShow.TheVariants.{State}
 use Rattle.vip_words.specs.declared.request.Show.TheVariants as show
-use Rattle.vip_tools.specs.Files.{Loaded, needed, script_files, show_files}
+use Rattle.vip_tools.specs.Files.{Loaded, needed, script_files, shape_of, show_files}
 use Rattle.vip_tools.specs.Judged.Verdict.{Given}
 use Rattle.vip_tools.specs.Outcome.{Outcome, Output, script_in}
 use Rattle.vip_tools.specs.Report.{end_report}
@@ -46,6 +46,7 @@ use Rattle.vip_call.specs.Saved.{Continues, GoesOn, GoesOnAsRun, IsSaved, SavesO
 use Rattle.vip_call.specs.Top.{Call, ContinuesSaved}
 use Rattle.vip_relation.proofs.Beginning.{begins-running}
 use Rattle.vip_words.specs.declared.request.Start.TheVariants as beginning
+use Rattle.vip_call.proofs.AskedLemmas.{IsLimited, asked_limited}
 use Rattle.vip_call.proofs.DebuggedLemmas.{found_point}
 use Rattle.vip_call.proofs.FilledLemmas.{AreGiven, are_given}
 use Rattle.vip_call.proofs.GivenStarts.{begun_so}
@@ -237,7 +238,7 @@ module _ (joins : SavedJoins) (commands_behind : GoesOnBehind) where
 
   -- ---- a command
 
-  module _ (e : Edition) (s : Start) (fits : Fits e s) (keys : Option (List ℕ)) (limit : ℕ) (output : Output) where
+  module _ (e : Edition) (s : Start) (fits : Fits e s) (keys : Option (List ℕ)) (limit : ℕ) (few : limit ≤ most_cycles) (output : Output) where
     saves_one :
         (script : List KeyEvent) → script_in keys ≡ Ok script → (f : Option (List ℕ)) → saved_file e (events_in e s script limit) ≡ f
         → Given output ≡ ran_with limit (run_ending e s script limit) (saved_pieces f) → SavesOne e s keys limit output.pieces
@@ -247,11 +248,11 @@ module _ (joins : SavedJoins) (commands_behind : GoesOnBehind) where
         record {
           file = file;
           written = ap (λ o. o.pieces) (same_value output (record { pieces = file ∷ []; status = end_status ending; report = end_report limit ending }) h);
-          goes_on = λ few. goes_on_as few;
+          goes_on = goes_on_as;
         }
       where
-        goes_on_as : limit ≤ most_cycles → GoesOnAsRun e s keys limit file
-        goes_on_as few =
+        goes_on_as : GoesOnAsRun e s keys limit file
+        goes_on_as =
             let x = joins e s fits script limit few file is in
             record {
               accepted = x.accepted;
@@ -263,19 +264,20 @@ module _ (joins : SavedJoins) (commands_behind : GoesOnBehind) where
             }
 
   is_saved :
-      (known : Known) (e : Edition) (s : Start) → Fits e s → (keys : Option (List ℕ)) (limit : ℕ) (shown_as : Show (List ℕ)) (output : Output)
+      (known : Known) (e : Edition) (s : Start) → Fits e s → (keys : Option (List ℕ)) (limit : ℕ) → limit ≤ most_cycles → (shown_as : Show (List ℕ)) (output : Output)
       → ShowComes known e s keys limit shown_as (Given output) → IsSaved e s keys limit shown_as output.pieces
-  is_saved known e s fits keys limit (show.Plain State) output x =
-      saves_one e s fits keys limit output x.value x.gives (saved_file e (events_in e s x.value limit)) refl x.here.here
-  is_saved known e s fits keys limit _ output x = tt
+  is_saved known e s fits keys limit few (show.Plain State) output x =
+      saves_one e s fits keys limit few output x.value x.gives (saved_file e (events_in e s x.value limit)) refl x.here.here
+  is_saved known e s fits keys limit few _ output x = tt
 
-  shows : (loaded : Loaded) (output : Output) → AreGiven (needed loaded) → HasOutcome loaded (Given output) → Continues loaded output.pieces
-  shows (request.Run run) output given comes =
+  shows : (loaded : Loaded) (output : Output) → AreGiven (needed loaded) → IsLimited (shape_of loaded) → HasOutcome loaded (Given output) → Continues loaded output.pieces
+  shows (request.Run run) output given few comes =
       begun_so output (λ e s. ShowComes (known_in run.start) e s run.keys run.limit run.show) (λ e s. IsSaved e s run.keys run.limit run.show output.pieces)
-      (λ e s fits comes. is_saved _ e s fits run.keys run.limit run.show output comes)
+      (λ e s fits comes. is_saved _ e s fits run.keys run.limit few run.show output comes)
       run.start (show_files run.show ++ script_files run.keys) given comes
-  shows _ output given comes = tt
+  shows _ output given few comes = tt
 
   pub continues_saved : (call : Call) → ContinuesSaved call
   continues_saved call asked loaded pieces status report asks comes =
-      shows loaded (record { pieces = pieces; status = status; report = report }) (are_given call.files asked loaded asks.shape asks.read) comes
+      shows loaded (record { pieces = pieces; status = status; report = report }) (are_given call.files asked loaded asks.shape asks.read)
+      (subst IsLimited asks.shape (asked_limited call.words asked asks.words)) comes

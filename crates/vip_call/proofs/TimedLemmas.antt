@@ -1,5 +1,7 @@
 -- The transcript of a game's run is the one in the language's time, by the law of every run's time.
-use Rattle.std.proofs.Common.{◌≡◌, ℕ, zero, suc, ◌+◌, ◌<◌, List, [], ◌∷◌, slice_index, refl, sym, ap, subst, ◌∙◌}
+use Rattle.std.proofs.Common.{◌≡◌, ℕ, zero, suc, ◌+◌, ◌<◌, Bool, true, false, List, [], ◌∷◌, slice_index, refl, sym, ap, subst, ◌∙◌}
+use Rattle.std.specs.Prelude.{if◌then◌else◌, nat_le}
+use Rattle.std.proofs.lemmas.Bool.{leb-false}
 use Rattle.machine.specs.Board.{Machine}
 use Rattle.machine.specs.Keys.{Event as KeyEvent, held_at}
 use Rattle.machine.specs.Pictures.{picture_of, windows_ended}
@@ -9,9 +11,9 @@ use Rattle.chip8_lang.specs.declared.view.Stop.{Stop}
 use Rattle.chip8_lang.specs.Events.{Event, events_behind}
 use Rattle.chip8_lang.specs.Events.Event.{Picture, Dispatch, Stopped}
 use Rattle.chip8_lang.specs.Places.{state_of}
-use Rattle.chip8_lang.specs.State.{Lang}
+use Rattle.chip8_lang.specs.State.{Lang, first}
 use Rattle.chip8_lang.specs.Ticks.{ticks}
-use Rattle.chip8_lang.specs.Timed.{Shown as TimedShown, shown_behind}
+use Rattle.chip8_lang.specs.Timed.{Shown as TimedShown, boot_cycle, shown_behind, timed_run}
 use Rattle.chip8_lang.specs.Timed.Shown.{Picture as PictureAt, Point as PointAt, End}
 use Rattle.chip8_lang.specs.View.{opcode_at}
 use Rattle.rom_law.specs.Language.{Begins as BeginsRun, GoesOn as GoesOnRun, Halted, end_cycle}
@@ -35,7 +37,7 @@ use Rattle.vip_call.specs.Transcribed.{shown_from}
 use Rattle.vip_call.specs.Transcript.{Point, Shows, ShowsPictures}
 use Rattle.vip_call.proofs.LanguageLemmas.{is_chip8}
 use Rattle.vip_call.proofs.ResumedLemmas.{FromFile as FromAccepted}
-use Rattle.vip_call.proofs.TranscriptLemmas.{file_point_is, points_of}
+use Rattle.vip_call.proofs.TranscriptLemmas.{Boots, file_point_is, points_of}
 
 -- ---- a stop
 
@@ -166,3 +168,19 @@ module _ (time : EveryTime) (time_from : TimeFromFile) where
       shows e script limit (run_of e (Saved f) script limit) (run_ending e (Saved f) script limit) (windows_ended (shown f).cycle) (shown f)
       (events_behind (interpreter_of e) script (shown f) limit) _ (is_chip8 law from e (Saved f) fits script limit).events
       (shown_is e (Saved f) fits script limit)
+
+-- ---- the first point
+
+pub boots : (e : Edition) (script : List KeyEvent) (limit : ℕ) (game : List ℕ) (points : List Point) (ending : Ending) (t : ℕ)
+    → Shows e script limit (timed_run e script limit game) points ending t → Boots limit points
+boots e script limit game points ending t = by_test (nat_le boot_cycle limit) refl points
+  where
+    by_test :
+        (early : Bool) → nat_le boot_cycle limit ≡ early → (points : List Point)
+        → Shows e script limit
+        (if early then PointAt boot_cycle (first e game) ∷ shown_behind e script limit limit 0 boot_cycle (first e game) else []) points ending t
+        → Boots limit points
+    by_test true is [] x = absurd x
+    by_test true is (p ∷ ps) x = x.0
+    by_test false is [] x = leb-false boot_cycle limit is
+    by_test false is (p ∷ ps) x = absurd x

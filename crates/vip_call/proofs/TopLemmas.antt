@@ -329,7 +329,7 @@ module _ (roms : RomsGiven) (call : Call) (asked : Asked) (files : FileMap) (off
           status,
           says.report,
           says.comes,
-          free roms says.loaded (Refused status says.report) says.comes,
+          (free roms says.loaded (Refused status says.report) says.comes).0,
         )
 
     not_larger : (status : Status) → Oversize status call → ⊥
@@ -381,8 +381,8 @@ pub completes : RomsGiven → (status : Status) (call : Call) → Says status ca
 completes roms status call says asked files contents offers there accepted out err = ends roms call asked files offers contents there accepted status says out err
 
 pub never_of_rom : RomsGiven → (status : Status) (call : Call) → Says status call → ¬ IsOfRom status
-never_of_rom roms BadRomSource call says = free roms says.loaded (Refused BadRomSource says.report) says.comes
-never_of_rom roms RomDiffers call says = free roms says.loaded (Refused RomDiffers says.report) says.comes
+never_of_rom roms BadRomSource call says = (free roms says.loaded (Refused BadRomSource says.report) says.comes).0
+never_of_rom roms RomDiffers call says = (free roms says.loaded (Refused RomDiffers says.report) says.comes).0
 never_of_rom roms _ call says = λ x. x
 
 -- ---- what performing answers, by its work and its report

@@ -1,25 +1,22 @@
 -- The run of a game that is one of CHIP-8 has a transcript, and what is written of its events is what is written of that.
-use Rattle.std.proofs.Common.{◌≡◌, ℕ, zero, suc, ◌+◌, ◌-◌, ◌<◌, ◌≤◌, nat_lt, Bool, List, [], ◌∷◌, ◌++◌, length, map, filter, Option, Some, None, slice_get, refl, sym, ap, ap₂, subst, subst₂, ◌∙◌, arith, append_assoc}
+use Rattle.std.proofs.Common.{◌≡◌, ℕ, suc, ◌+◌, ◌-◌, ◌<◌, ◌≤◌, List, [], ◌∷◌, ◌++◌, length, map, Option, Some, None, slice_get, refl, sym, ap, ap₂, subst, ◌∙◌, arith}
 use Rattle.std.specs.Prelude.{if◌then◌else◌, filter_map}
 use Rattle.std.specs.List.{last_or}
 use Rattle.std.specs.Option.{option_map}
-use Rattle.std.proofs.lemmas.Bool.{le-ltb, lt-ltb}
-use Rattle.std.proofs.lemmas.List.Elements.{filter-append}
-use Rattle.std.proofs.lemmas.Option.{same_Some}
 use Rattle.machine.specs.Board.{Machine}
 use Rattle.machine.specs.Keys.{Event as KeyEvent}
-use Rattle.machine.specs.Pictures.{picture_of, window_end, windows_ended}
+use Rattle.machine.specs.Pictures.{windows_ended}
 use Rattle.machine.proofs.Counts.{windows}
 use Rattle.chip8_lang.specs.declared.view.Edition.{Edition}
 use Rattle.chip8_lang.specs.Events.{Event}
 use Rattle.chip8_lang.specs.Events.Event.{Picture, Dispatch, Stopped}
 use Rattle.chip8_lang.specs.Places.{state_of}
+use Rattle.chip8_lang.specs.Timed.{boot_cycle}
 use Rattle.chip8_lang.specs.View.{view_at, view_of}
 use Rattle.rom_law.specs.Language.{Begins as BeginsRun, GoesOn as GoesOnRun, end_cycle}
 use Rattle.rom_board.specs.Program.{program}
 use Rattle.vip_relation.specs.Follows.{dispatch_of, last_dispatch}
 use Rattle.vip_text.specs.Endings.{Ending}
-use Rattle.vip_text.specs.Screens.{picture_file}
 use Rattle.vip_text.specs.StateFile.{bank_in, shown}
 use Rattle.vip_text.specs.Summaries.{summary_line}
 use Rattle.vip_text.specs.declared.trace.TraceColumns.{TraceColumns}
@@ -27,7 +24,7 @@ use Rattle.vip_show.specs.Output.{trace_lines, screen_piece, picture_pieces, lit
 use Rattle.vip_show.specs.Profile.{profile_pieces, profile_text, views_of}
 use Rattle.vip_call.specs.Language.{named}
 use Rattle.vip_call.specs.Transcribed.{file_point}
-use Rattle.vip_call.specs.Transcript.{Point, Begins, GoesOn, Ends, IsPicture, ArePictures, last_point, last_screen, line, lit, point_before, profile_of, summary_text, trace_text}
+use Rattle.vip_call.specs.Transcript.{Point, Begins, GoesOn, Ends, last_point, last_screen, line, lit, profile_of, summary_text, trace_text}
 
 -- ---- the points among some events
 
@@ -41,6 +38,11 @@ points_of e events = map (point_of e) (filter_map dispatch_of events)
 pub file_point_is : (e : Edition) (f : List ℕ) → point_of e (shown f) ≡ file_point e f
 unfolding state_of bank_in
 file_point_is e f = refl
+
+-- the first point is in its cycle, and there is none where the limit is below that
+abbrev pub Boots : ℕ → List Point → Type 0
+Boots limit [] = limit < boot_cycle
+Boots limit (p ∷ ps) = p.cycle ≡ boot_cycle
 
 module _ (e : Edition) (script : List KeyEvent) (limit : ℕ) (run : List Machine) (ending : Ending) where
   abbrev Behind : ℕ → Machine → List Event → Type 0
@@ -64,123 +66,48 @@ module _ (e : Edition) (script : List KeyEvent) (limit : ℕ) (run : List Machin
       }))
 
   pub begins :
-      (game : List ℕ) (events : List Event) → BeginsRun (program e) script limit run (named e ending) game events
+      (game : List ℕ) (events : List Event) → BeginsRun (program e) script limit run (named e ending) game events → Boots limit (points_of e events)
       → Begins e script limit game (points_of e events) ending (end_cycle limit events)
-  begins game [] h = (h.0, h.1, refl)
-  begins game (Picture m ∷ events) h = absurd h
-  begins game (Dispatch b ∷ events) h = (h.0.keeps.lies.is, h.1, h.2, goes_on 0 b events h.3)
-  begins game (Stopped b ∷ events) h = absurd h
+  begins game [] h boots = (boots, h.1, refl)
+  begins game (Picture m ∷ events) h boots = absurd h
+  begins game (Dispatch b ∷ events) h boots = (h.0.keeps.lies.is, boots, h.2, goes_on 0 b events h.3)
+  begins game (Stopped b ∷ events) h boots = absurd h
 
-  -- ---- the pictures
+  -- ---- how many pictures there are
 
-  abbrev is_before : ℕ → Point → Bool
-  is_before t p = nat_lt p.cycle t
+  abbrev files : List Event → List (List ℕ)
+  files events = picture_pieces (program e).interpreter.rom run events
 
-  -- where frame m's picture has come, no later point comes before its window's end
-  none_before : (m k : ℕ) (b : Machine) (events : List Event) → m < k → Behind k b events → filter (is_before (window_end m)) (points_of e events) ≡ []
-  none_before m k b [] l h = refl
-  none_before m k b (Picture n ∷ events) l h = none_before m (k + 1) b events (omega (arith, l)) h.2
-  none_before m k b (Dispatch c ∷ events) l h =
-      rw (le-ltb c.cycle (window_end m) (omega (arith, l, h.0.shown, windows c.cycle))) (none_before m k c events l h.2)
-  none_before m k b (Stopped c ∷ events) l h = ap (λ es. filter (is_before (window_end m)) (points_of e es)) h.last
-
-  last_is : (o : Option Point) (xs : List Point) (p : Point) → last_or o (xs ++ p ∷ []) ≡ Some p
-  last_is o [] p = refl
-  last_is o (x ∷ xs) p = last_is (Some x) xs p
-
-  module _ (before : List Point) (b : Machine) (k : ℕ) (events : List Event) (early : windows_ended b.cycle ≤ k) (h : Behind (k + 1) b events) where
-    abbrev points : List Point
-    points = before ++ point_of e b ∷ points_of e events
-
-    last_before : point_before (window_end k) points ≡ Some (point_of e b)
-    last_before =
-        ap (last_or None)
-        (filter-append (is_before (window_end k)) before (point_of e b ∷ points_of e events)
-        ∙ ap (λ l. filter (is_before (window_end k)) before ++ l) here)
-        ∙ last_is None (filter (is_before (window_end k)) before) (point_of e b)
-      where
-        here : filter (is_before (window_end k)) (point_of e b ∷ points_of e events) ≡ point_of e b ∷ []
-        here = rw (lt-ltb b.cycle (window_end k) (omega (arith, early, windows b.cycle)), none_before k (k + 1) b events (omega arith) h) refl
-
-  -- files of the pictures of the frames from k up to, and without, n
-  record PicturesFrom (points : List Point) (k n : ℕ) (files : List (List ℕ)) : Type 0 where
-    count : k + length files ≡ n
-    each : (j : ℕ) (file : List ℕ) → slice_get files j ≡ Some file → IsPicture e points (k + j) file
-
-  abbrev rom : List ℕ
-  rom = (program e).interpreter.rom
-
-  no_more : (points : List Point) (k n : ℕ) → n ≡ k → PicturesFrom points k n []
-  no_more points k n is = record { count = omega (arith, is); each = λ j file there. never j file there }
-    where
-      never : (j : ℕ) (file : List ℕ) → slice_get [] j ≡ Some file → IsPicture e points (k + j) file
-      never j file there = cc
-
-  one_more :
-      (points : List Point) (k n : ℕ) (file : List ℕ) (files : List (List ℕ)) → IsPicture e points k file → PicturesFrom points (k + 1) n files
-      → PicturesFrom points k n (file ∷ files)
-  one_more points k n file files this others = record { count = omega (arith, others.count); each = each }
-    where
-      each : (j : ℕ) (f : List ℕ) → slice_get (file ∷ files) j ≡ Some f → IsPicture e points (k + j) f
-      each zero f there = subst₂ (IsPicture e points) (omega arith) (same_Some file f there) this
-      each (suc j) f there = subst (λ m. IsPicture e points m f) (omega arith) (others.each j f there)
-
-  pictures_on :
-      (before : List Point) (k : ℕ) (b : Machine) (events : List Event) → windows_ended b.cycle ≤ k → b.cycle ≤ limit → Behind k b events
-      → PicturesFrom (before ++ point_of e b ∷ points_of e events) k (windows_ended (end_cycle limit events)) (picture_pieces rom run events)
+  counted :
+      (k : ℕ) (b : Machine) (events : List Event) → b.cycle ≤ limit → Behind k b events
+      → k + length (files events) ≡ windows_ended (end_cycle limit events)
   unfolding picture_pieces
-  pictures_on before k b [] early inside h = no_more _ k (windows_ended limit) (h.shown inside)
-  pictures_on before k b (Picture m ∷ events) early inside h =
-      one_more _ k _ (picture_file (picture_of rom run m)) (picture_pieces rom run events)
-      (record {
-        point = point_of e b;
-        before = last_before before b k events early h.2;
-        shows = record { picture = picture_of rom run m; shows = h.1; is = refl };
-      })
-      (pictures_on before (k + 1) b events (omega (arith, early)) inside h.2)
-  pictures_on before k b (Dispatch c ∷ events) early inside h =
-      subst (λ points. PicturesFrom points k (windows_ended (end_cycle limit events)) (picture_pieces rom run events))
-      (append_assoc before (point_of e b ∷ []) (point_of e c ∷ points_of e events))
-      (pictures_on (before ++ point_of e b ∷ []) k c events (omega (arith, h.0.shown)) h.0.within h.2)
-  pictures_on before k b (Stopped c ∷ events) early inside h =
-      subst (λ es. PicturesFrom (before ++ point_of e b ∷ points_of e es) k (windows_ended c.cycle) (picture_pieces rom run es)) (sym h.last)
-      (no_more _ k (windows_ended c.cycle) h.comes.shown)
+  counted k b [] inside h = omega (arith, h.shown inside)
+  counted k b (Picture m ∷ events) inside h = omega (arith, counted (k + 1) b events inside h.2)
+  counted k b (Dispatch c ∷ events) inside h = counted k c events h.0.within h.2
+  counted k b (Stopped c ∷ events) inside h =
+      subst (λ es. k + length (files es) ≡ windows_ended c.cycle) (sym h.last) (omega (arith, h.comes.shown))
 
-  pictures_from :
-      (points : List Point) (k n : ℕ) (files : List (List ℕ)) → PicturesFrom points k n files → ArePictures e points k n files
-  pictures_from points k n files p = record { count = omega (arith, p.count); each = p.each }
-
-  no_pictures : (points : List Point) (k n : ℕ) → n ≤ k → ArePictures e points k n []
-  no_pictures points k n few = record { count = omega (arith, few); each = λ j file there. never j file there }
-    where
-      never : (j : ℕ) (file : List ℕ) → slice_get [] j ≡ Some file → IsPicture e points (k + j) file
-      never j file there = cc
-
-  -- of a game's run: those of the frames from 0 on
+  -- of a game's run
   pub game_pictures :
       (game : List ℕ) (events : List Event) → BeginsRun (program e) script limit run (named e ending) game events
-      → ArePictures e (points_of e events) (windows_ended 0) (windows_ended (end_cycle limit events)) (picture_pieces rom run events)
+      → length (files events) ≡ windows_ended (end_cycle limit events) - windows_ended 0
   unfolding picture_pieces
-  game_pictures game [] h = no_pictures [] (windows_ended 0) (windows_ended limit) (omega (arith, h.0, windows limit, windows 0))
+  game_pictures game [] h = omega (arith, h.0, windows limit, windows 0)
   game_pictures game (Picture m ∷ events) h = absurd h
-  game_pictures game (Dispatch b ∷ events) h =
-      let first : windows_ended 0 ≡ 0 = omega (arith, windows 0) in
-      subst (λ k. ArePictures e (points_of e (Dispatch b ∷ events)) k (windows_ended (end_cycle limit events)) (picture_pieces rom run events)) (sym first)
-      (pictures_from _ 0 _ _ (pictures_on [] 0 b events (omega (arith, h.1, windows b.cycle)) h.2 h.3))
+  game_pictures game (Dispatch b ∷ events) h = omega (arith, counted 0 b events h.2 h.3, windows 0)
   game_pictures game (Stopped b ∷ events) h = absurd h
 
-  -- and those behind a dispatch point that comes by the limit
+  -- behind a dispatch point that comes by the limit
   pub later_pictures :
       (b : Machine) (events : List Event) → b.cycle ≤ limit → Behind (windows_ended b.cycle) b events
-      → ArePictures e (point_of e b ∷ points_of e events) (windows_ended b.cycle) (windows_ended (end_cycle limit events)) (picture_pieces rom run events)
-  later_pictures b events inside h = pictures_from _ _ _ _ (pictures_on [] (windows_ended b.cycle) b events (omega arith) inside h)
+      → length (files events) ≡ windows_ended (end_cycle limit events) - windows_ended b.cycle
+  later_pictures b events inside h = omega (arith, counted (windows_ended b.cycle) b events inside h)
 
   -- or behind the limit
-  pub late_pictures :
-      (b : Machine) → limit < b.cycle
-      → ArePictures e (point_of e b ∷ points_of e []) (windows_ended b.cycle) (windows_ended (end_cycle limit [])) (picture_pieces rom run [])
+  pub late_pictures : (b : Machine) → limit < b.cycle → length (files []) ≡ windows_ended limit - windows_ended b.cycle
   unfolding picture_pieces
-  late_pictures b over = no_pictures _ (windows_ended b.cycle) (windows_ended limit) (omega (arith, over, windows limit, windows b.cycle))
+  late_pictures b over = omega (arith, over, windows limit, windows b.cycle)
 
 -- ---- the lines
 

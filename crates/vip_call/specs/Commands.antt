@@ -1,10 +1,11 @@
 -- The commands of the debugger over the points of a run, in the language's terms. Where a run stands between two commands is a cycle: the points up to it are
 -- met, with the stop where that has come, and the others are ahead. `step`, `at` and `watch` speak of the machine: behind them it is some cycle that isn't
--- before.
-use Rattle.std.specs.Prelude.{◌≡◌, ℕ, ◌-◌, ◌==◌, ◌≤◌, nat_le, nat_lt, max, min, if◌then◌else◌, Bool, true, false, List, [], ◌∷◌, ◌++◌, filter, find, slice_get, Option, Some, None, codes}
+-- before. Behind a command that comes to a point, and in any other cycle of a point, it stands at that point.
+use Rattle.std.specs.Prelude.{◌≡◌, ℕ, ◌+◌, ◌-◌, ◌*◌, ◌==◌, ◌≤◌, nat_le, nat_lt, max, min, if◌then◌else◌, Bool, true, false, List, [], ◌∷◌, ◌++◌, filter, find, slice_get, Option, Some, None, codes}
 use Rattle.chip8_lang.specs.declared.view.Edition.{Edition}
-use Rattle.chip8_lang.specs.Editions.{rows_of}
+use Rattle.chip8_lang.specs.Editions.{memory_end, memory_start, rows_of}
 use Rattle.chip8_lang.specs.Screen.{empty}
+use Rattle.chip8_lang.specs.State.{memory_byte}
 use Rattle.vip_byte.specs.Text.{newline}
 use Rattle.vip_text.specs.Endings.{Ending}
 use Rattle.vip_text.specs.Endings.Ending.{AtLimit, AtStop}
@@ -18,10 +19,11 @@ use Rattle.vip_words.specs.declared.debug_commands.Running.TheVariants.{To}
 use Rattle.vip_words.specs.declared.debug_commands.Seeking.{Seeking}
 use Rattle.vip_words.specs.declared.debug_commands.Seeking.TheVariants.{Next, Break}
 use Rattle.vip_words.specs.declared.debug_commands.Telling.TheVariants.{Code, Screen, State}
+use Rattle.vip_debug.specs.Code.{code_lines}
 use Rattle.vip_call.specs.Transcript.{Point, end_line, last_point, line, screen}
 
--- of the points of a run up to a limit, which ends so in cycle `over`
-module _ (e : Edition) (limit : ℕ) (points : List Point) (ending : Ending) (over : ℕ) where
+-- of the points of a run up to a limit, which ends so in cycle `over`; lines of code have these labels
+module _ (e : Edition) (labels : List (ℕ × List ℕ)) (limit : ℕ) (points : List Point) (ending : Ending) (over : ℕ) where
   -- the last point met, the points ahead, and whether the stop is met
   abbrev pub last_met : ℕ → Option Point
   last_met t = last_point (filter (λ p. nat_le p.cycle t) points)
@@ -56,6 +58,12 @@ module _ (e : Edition) (limit : ℕ) (points : List Point) (ending : Ending) (ov
   screen_text None = screen_lines empty (rows_of e)
   screen_text (Some p) = screen e p
 
+  -- `code` in the cycle of a point: lines of two bytes each that lie in game memory are those of its state
+  abbrev pub ShowsCode : ℕ → ℕ → Option Point → ℕ → List (List ℕ) → Type 0
+  ShowsCode address count None t pieces = Unit {0}
+  ShowsCode address count (Some p) t pieces =
+      p.cycle ≡ t → memory_start ≤ address → address + 2 * count ≤ memory_end e → pieces ≡ code_lines (memory_byte p.state) labels address count
+
   -- a command that runs the board names the stop, where that is met
   abbrev pub NamesStop : ℕ → List (List ℕ) → Type 0
   NamesStop t pieces = stops_by ending t ≡ true → pieces ≡ end_line ending ∷ []
@@ -65,7 +73,7 @@ module _ (e : Edition) (limit : ℕ) (points : List Point) (ending : Ending) (ov
   Answers (Seeks seeking) t u pieces = (u ≡ place_at t (sought seeking t)) × (pieces ≡ found_line (sought seeking t) ∷ [])
   Answers (Tells State) t u pieces = (u ≡ t) × (pieces ≡ state_text (last_met t) ∷ [])
   Answers (Tells Screen) t u pieces = (u ≡ t) × (pieces ≡ screen_text (last_met t) ∷ [])
-  Answers (Tells (Code address count)) t u pieces = u ≡ t
+  Answers (Tells (Code address count)) t u pieces = (u ≡ t) × ShowsCode address count (last_met t) t pieces
   Answers (Runs (To cycle)) t u pieces = (u ≡ max t (min cycle limit)) × NamesStop u pieces
   Answers (Runs running) t u pieces = (t ≤ u) × (u ≤ max t limit) × NamesStop u pieces
   Answers (Shows showing) t u pieces = u ≡ t

@@ -1,5 +1,5 @@
 -- What the run of a game says of the language: it is a run of CHIP-8, which keeps to its frames, and its ending names the stop and its instruction.
-use Rattle.std.specs.Prelude.{◌≡◌, ℕ, ◌⊎◌, List, Option, Ok}
+use Rattle.std.specs.Prelude.{◌≡◌, ℕ, List, Option, Ok}
 use Rattle.machine.specs.Keys.{Event as KeyEvent}
 use Rattle.chip8_lang.specs.declared.view.Edition.{Edition}
 use Rattle.chip8_lang.specs.Places.{state_of}
@@ -13,14 +13,9 @@ use Rattle.vip_text.specs.Endings.Ending.{AtLimit, AtStop}
 use Rattle.vip_relation.specs.State.{Start, machine_of}
 use Rattle.vip_relation.specs.State.Start.{Reset, Saved}
 use Rattle.vip_words.specs.declared.request.Request.TheVariants.{Run}
-use Rattle.vip_words.specs.declared.request.Show.{Show}
-use Rattle.vip_words.specs.declared.request.Show.TheVariants.{Commands}
 use Rattle.vip_tools.specs.Files.{Loaded}
-use Rattle.vip_tools.specs.Status.{end_status}
 use Rattle.vip_tools.specs.Outcome.{script_in}
 use Rattle.vip_verbs.specs.Outcome.{OfRun, run_ending}
-use Rattle.vip_tools.specs.Report.{end_report}
-use Rattle.vip_tools.specs.declared.status.Status.{Status}
 
 -- ---- a run
 
@@ -41,24 +36,14 @@ IsChip8 e (Saved file) script limit ending = IsRunBehind e (shown file) script l
 
 -- ---- a command
 
--- The end of which the status and the report are. Under the debugger it is that of where the commands end: with the stop of this run, where that is a
--- stop point, and else as at the limit.
-abbrev pub IsEndOf : Show (List ℕ) → Ending → Ending → Type 0
-IsEndOf (Commands text echo) ending reported = (reported ≡ AtLimit) ⊎ (reported ≡ ending)
-IsEndOf _ ending reported = reported ≡ ending
-
--- a run that is shown so, whose end has this status and this report
-pub record RunIsChip8 (e : Edition) (s : Start) (keys : Option (List ℕ)) (limit : ℕ) (show : Show (List ℕ)) (status : Status) (report : List ℕ) : Type 0 where
+-- a run of CHIP-8, which keeps to its frames; its status and its report are told in the language's time
+pub record RunIsChip8 (e : Edition) (s : Start) (keys : Option (List ℕ)) (limit : ℕ) : Type 0 where
   pub script : List KeyEvent
   pub reads : script_in keys ≡ Ok script
   pub run : IsChip8 e s script limit (run_ending e s script limit)
   pub frames : KeepsFrames (program e) script (machine_of s)
-  pub reported : Ending
-  pub ends : IsEndOf show (run_ending e s script limit) reported
-  pub status_is : status ≡ end_status reported
-  pub report_is : report ≡ end_report limit reported
 
 -- what a request runs, where it runs a game
-abbrev pub ShowsChip8 : Loaded → Status → List ℕ → Type 0
-ShowsChip8 (Run run) status report = OfRun run.start (λ e s. RunIsChip8 e s run.keys run.limit run.show status report)
-ShowsChip8 _ status report = Unit {0}
+abbrev pub ShowsChip8 : Loaded → Type 0
+ShowsChip8 (Run run) = OfRun run.start (λ e s. RunIsChip8 e s run.keys run.limit)
+ShowsChip8 _ = Unit {0}

@@ -8,7 +8,6 @@ use Rattle.vip_relation.specs.State.{Start}
 use Rattle.vip_relation.specs.State.Start.{Saved}
 use Rattle.vip_text.specs.StateFile.{shown, IsAccepted}
 use Rattle.vip_text.specs.declared.trace.TraceColumns.{TraceColumns}
-use Rattle.vip_byte.specs.Number.{most_cycles}
 use Rattle.vip_tools.specs.Code.{nothing_known}
 use Rattle.vip_tools.specs.Files.{Loaded}
 use Rattle.vip_tools.specs.Outcome.{Outcome, Shown, script_in}
@@ -62,11 +61,11 @@ pub record GoesOnAsRun (e : Edition) (s : Start) (keys : Option (List ℕ)) (lim
       → HasOutcome (Run (record { start = beginning.State file; keys = other; limit = later; show = show })) o
       → ShowComes nothing_known e (Saved file) other later show o
 
--- what was saved of a run is one file; words ask for at most 4,000,000,000 cycles
+-- what was saved of a run is one file
 pub record SavesOne (e : Edition) (s : Start) (keys : Option (List ℕ)) (limit : ℕ) (pieces : List (List ℕ)) : Type 0 where
   pub file : List ℕ
   pub written : pieces ≡ file ∷ []
-  pub goes_on : limit ≤ most_cycles → GoesOnAsRun e s keys limit file
+  pub goes_on : GoesOnAsRun e s keys limit file
 
 abbrev pub IsSaved : Edition → Start → Option (List ℕ) → ℕ → Show (List ℕ) → List (List ℕ) → Type 0
 IsSaved e s keys limit (Plain State) pieces = SavesOne e s keys limit pieces

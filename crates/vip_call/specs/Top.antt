@@ -4,6 +4,7 @@ use Rattle.std.specs.FinMap.{get}
 use Rattle.vip_outside.specs.Files.{FileMap, FilesMeaning}
 use Rattle.vip_outside.specs.Sink.{SinkMeaning}
 use Rattle.vip_outside.specs.Pieces.{PutsAll, FailsWithin}
+use Rattle.rom_board.specs.LeastBounds.{LeastBounds}
 use Rattle.asm_lex.specs.declared.shape.Isa.{Isa}
 use Rattle.asm_core.specs.Sources.{source_lines}
 use Rattle.asm_core.specs.Told.{IsFirstTold}
@@ -17,14 +18,14 @@ use Rattle.vip_words.specs.declared.request.TextVerb.TheVariants.{Asm, Check, Ti
 use Rattle.vip_tools.specs.declared.refusal.Kind.{Kind}
 use Rattle.vip_tools.specs.declared.refusal.Refusal.{Refusal}
 use Rattle.vip_tools.specs.declared.status.Status.{Status}
-use Rattle.vip_tools.specs.declared.status.Status.TheVariants.{Done, Stopped, Usage, ReadFault, GameTooLarge, ScriptTooLarge, BadSource, BadRomSource, RomDiffers, WriteFault, NoMemory, SourceTooLarge, CommandsTooLarge, BadState, MessageTooLarge, CertificateTooLarge, NoCertificate, RomTooLarge, RamTooLarge}
+use Rattle.vip_tools.specs.declared.status.Status.TheVariants.{Done, Stopped, Usage, ReadFault, GameTooLarge, ScriptTooLarge, BadSource, BadRomSource, RomDiffers, WriteFault, NoDispatch, NoMemory, SourceTooLarge, CommandsTooLarge, BadState, MessageTooLarge, CertificateTooLarge, NoCertificate, RomTooLarge, RamTooLarge}
 use Rattle.vip_text.specs.declared.fault.StateFault.{StateFault}
 use Rattle.vip_tools.specs.Files.{Loaded, Needed, files_of, needed, shape_of, HasAll, HasFault, IsRight, ComesTo, IsFaulty, IsLarger, IsUnread, OnlyReads, ReadsSome, reads_of, with_reads}
 use Rattle.vip_call.specs.Certified.{Certifies}
 use Rattle.vip_call.specs.Linked.{BringsMessage}
 use Rattle.vip_call.specs.Language.{ShowsChip8}
 use Rattle.vip_call.specs.Saved.{Continues}
-use Rattle.vip_call.specs.Transcribed.{Transcribes, TranscribesInTime}
+use Rattle.vip_call.specs.Transcribed.{SavesNone, Transcribes}
 use Rattle.vip_call.specs.Words.{FinishAnswers, OfWords, OpensWords}
 use Rattle.vip_verbs.specs.declared.prepared.Prepared.{Prepared}
 use Rattle.vip_verbs.specs.Outcome.{HasOutcome}
@@ -321,30 +322,30 @@ Completes status call =
 
 -- ---- what the output says of the language
 
--- Where the words and the contents of the files come to the output of a game's run, with this status and this report, it is that of a run
--- of CHIP-8, which keeps to its frames and ends so; under the debugger it ends where the commands do, and a stop there is that of the run. `WritesExactly`
--- and `Faulty` say that this output went out, whole or in part.
+-- Where the words and the contents of the files come to the output of a game's run, that run is one of CHIP-8, which keeps to its frames. `WritesExactly` and
+-- `Faulty` say that this output went out, whole or in part.
 abbrev pub SpeaksChip8 : Call → Type 0
 SpeaksChip8 call =
     (asked : Asked) (loaded : Loaded) (pieces : List (List ℕ)) (status : Status) (report : List ℕ)
     → Asks call asked loaded
     → HasOutcome loaded (Shown pieces status report)
-    → ShowsChip8 loaded status report
+    → ShowsChip8 loaded
 
--- of what went out, whole or in part, this is known
-abbrev pub Tells : OutputLaw → Status → Call → Type 0
-Tells Of Done call = Writes Of Done call
-Tells Of Stopped call = Writes Of Stopped call
-Tells Of WriteFault call = WritesPart Of call
-Tells Of _ call = Unit {0}
+-- a run without a point was to be saved
+pub record SavesNothing (call : Call) : Type 0 where
+  pub asked : Asked
+  pub loaded : Loaded
+  pub asks : Asks call asked loaded
+  pub none : SavesNone loaded
 
--- The same with no machine in it: what went out is that of a transcript of CHIP-8, and the status and the report are those of its end.
-abbrev pub TellsChip8 : Status → Call → Type 0
-TellsChip8 = Tells Transcribes
-
--- And with no choice left: the transcript is the one in the language's time, whose cycles are a function of edition, game, script and limit.
+-- With no machine in it, and no choice left: what went out, whole or in part, is that of the run in the language's time, whose points and cycles are a
+-- function of edition, start, script and limit, and the status and the report are those of its end. There is none to be saved only where it has no point.
 abbrev pub TellsTimed : Status → Call → Type 0
-TellsTimed = Tells TranscribesInTime
+TellsTimed Done call = Writes Transcribes Done call
+TellsTimed Stopped call = Writes Transcribes Stopped call
+TellsTimed WriteFault call = WritesPart Transcribes call
+TellsTimed NoDispatch call = SavesNothing call
+TellsTimed _ call = Unit {0}
 
 -- ---- what the output says of a certificate
 
@@ -398,18 +399,20 @@ BringsMessages call =
 -- ---- the program
 
 -- What the program promises of each call. The body is held to `says`: what its answer tells of words, files, output and report. What follows for a
--- reader stands beside it. `words` follows from `says` alone, `due`, `complete` and `rom` as each source gives its ROM, `chip8` by the law of every run,
--- `timed` by that of its time. `language`, `certified`, `saved`, `checked` and `linked` are laws of what words and contents come to, and hold of any body.
+-- reader stands beside it. `words` follows from `says` alone, `due`, `complete` and `rom` as each source gives its ROM, `timed` by the laws of every run and
+-- of its time. `language`, `certified`, `saved`, `checked` and `linked` are laws of what words and contents come to, and `least` is one of the language: they
+-- hold of any body.
 pub record Promises (status : Status) (call : Call) : Type 0 where
   -- what the answer says: exact output for Done and Stopped, of `certify` some certificate that is accepted, each refusal's cause, and which reads were made
   pub says : Says status call
   -- Where a game is run, its run is one of CHIP-8, within the bounds, also at a wait for a key; each picture is the screen at the last dispatch
   -- point, and a stop names its instruction. An interrupt comes exactly in its cycle of each frame, and none while the screen is changed.
   pub language : SpeaksChip8 call
-  -- what went out of a game's run is a transcript of CHIP-8, in the terms of the language alone
-  pub chip8 : TellsChip8 status call
-  -- and the one in the language's time: each point and the stop in exactly their cycle, and none is left out
+  -- What went out of a game's run is that of the run in the language's time: each point and the stop in exactly their cycle, and none is left out. So it is
+  -- a run of CHIP-8.
   pub timed : TellsTimed status call
+  -- beside the bounds that are printed: the least that hold, each of which a game takes
+  pub least : LeastBounds
   -- where a certificate is accepted or written, its routine leaves in time, or its game never stops
   pub certified : ProvesCertified call
   -- a saved state is that of the run's last dispatch point, and what goes on from it is the rest of the run

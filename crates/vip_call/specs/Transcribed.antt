@@ -1,5 +1,5 @@
 -- What a verb writes of a game's run, and how it reports its end, by the transcript.
-use Rattle.std.specs.Prelude.{◌≡◌, ℕ, ◌+◌, ◌-◌, ◌*◌, ◌/◌, ◌==◌, ◌≤◌, drop, max, min, slice_index, slice_range, List, [], ◌∷◌, ◌++◌, Option, Some, Result, Ok, Err}
+use Rattle.std.specs.Prelude.{◌≡◌, ℕ, ◌+◌, ◌-◌, ◌*◌, ◌/◌, ◌==◌, ◌<◌, drop, max, min, slice_index, slice_range, List, [], ◌∷◌, ◌++◌, Option, Some, Result, Ok, Err}
 use Rattle.std.specs.Int.{w64, from_be_bytes}
 use Rattle.machine.specs.Keys.{Event}
 use Rattle.machine.specs.Pictures.{windows_ended}
@@ -7,10 +7,9 @@ use Rattle.chip8_lang.specs.declared.view.Edition.{Edition}
 use Rattle.chip8_lang.specs.declared.view.Edition.TheVariants.{Usual}
 use Rattle.chip8_lang.specs.Editions.{memory_end, memory_start, random_cell, rows_of, screen_start, stack_top, variables}
 use Rattle.chip8_lang.specs.Places.{addresses, most_addresses, pixels}
-use Rattle.chip8_lang.specs.Timed.{Shown, shown_behind, timed_run}
-use Rattle.vip_byte.specs.Number.{most_cycles}
+use Rattle.chip8_lang.specs.Timed.{Shown, boot_cycle, shown_behind, timed_run}
 use Rattle.vip_text.specs.Endings.{Ending}
-use Rattle.vip_text.specs.StateFile.{bytes_at, edition_byte}
+use Rattle.vip_text.specs.StateFile.{bytes_at, edition_byte, IsAccepted}
 use Rattle.vip_relation.specs.State.{Start}
 use Rattle.vip_relation.specs.State.Start.{Reset, Saved}
 use Rattle.vip_words.specs.DebugGrammar.{commands_of}
@@ -33,7 +32,7 @@ use Rattle.vip_tools.specs.Judged.{Of}
 use Rattle.vip_tools.specs.Outcome.{script_in}
 use Rattle.vip_verbs.specs.Outcome.{known_in}
 use Rattle.vip_call.specs.Commands.{AllAnswered}
-use Rattle.vip_call.specs.Transcript.{ArePictures, Begins, GoesOn, Point, Shows, ShowsPictures, last_point, profile_of, summary_text, trace_text}
+use Rattle.vip_call.specs.Transcript.{Begins, GoesOn, Point, Shows, ShowsPictures, last_point, profile_of, summary_text, trace_text}
 
 -- ---- runs, from a game or from a file
 
@@ -64,31 +63,15 @@ file_point e f =
           };
     }
 
--- What holds of the runs from each start under each script up to each limit: which points, which end and which cycle of it a run has, and which pictures.
--- From reset the points are those of the game's run, and from a file those behind its point.
-pub record RunLaw : Type 1 where
-  pub transcript : Edition → Start → List Event → ℕ → List Point → Ending → ℕ → Type 0
-  pub pictures : Edition → Start → List Event → ℕ → List (List ℕ) → Type 0
-
--- a run of the language, whose pictures are known by its points
-abbrev pub is_run : Edition → Start → List Event → ℕ → List Point → Ending → ℕ → Type 0
-is_run e (Reset game) script limit = Begins e script limit game
-is_run e (Saved f) script limit = GoesOn e script limit (file_point e f)
-
-abbrev pub of_language : RunLaw
-of_language = record { transcript = is_run; pictures = λ e start script limit files. Unit {0} }
-
--- the one in its time
+-- The run in the language's time: from reset that of the game, and from a file that behind its point.
 abbrev pub shown_from : Edition → Start → List Event → ℕ → List Shown
 shown_from e (Reset game) script limit = timed_run e script limit game
 shown_from e (Saved f) script limit = let p = file_point e f in shown_behind e script limit limit (windows_ended p.cycle) p.cycle p.state
 
-abbrev pub in_time : RunLaw
-in_time =
-    record {
-      transcript = λ e start script limit. Shows e script limit (shown_from e start script limit);
-      pictures = λ e start script limit. ShowsPictures e (shown_from e start script limit);
-    }
+-- these points and this end are those of a run of CHIP-8
+abbrev pub IsRun : Edition → Start → List Event → ℕ → List Point → Ending → ℕ → Type 0
+IsRun e (Reset game) script limit = Begins e script limit game
+IsRun e (Saved f) script limit = GoesOn e script limit (file_point e f)
 
 -- The point of the start, which counts as met, and the cycle in which the run begins: of a file its own, and from reset none, and cycle 0.
 abbrev pub first_points : Edition → Start → List Point
@@ -101,11 +84,11 @@ first_cycle e (Saved f) = (file_point e f).cycle
 
 -- ---- what is written
 
--- one file of a state of the edition, which shows this point
+-- one file of a state, which is accepted, in the edition, and shows this point
 pub record IsStateOf (e : Edition) (point : Option Point) (pieces : List (List ℕ)) : Type 0 where
   pub file : List ℕ
   pub written : pieces ≡ file ∷ []
-  pub named : slice_index file 5 ≡ edition_byte e
+  pub accepted : IsAccepted e file
   pub shows : point ≡ Some (file_point e file)
 
 module _ (e : Edition) (s : Start) (points : List Point) where
@@ -114,38 +97,39 @@ module _ (e : Edition) (s : Start) (points : List Point) where
   all_points = first_points e s ++ points
 
   -- The commands of the debugger, where they have no fault. Where the limit is before the start, it stands there.
-  abbrev pub Debugged : ℕ → Ending → ℕ → Ending → Result (List Spoken) CommandFault → List (List ℕ) → Type 0
-  Debugged limit ending over reported (Ok commands) pieces =
-      AllAnswered e (max limit (first_cycle e s)) all_points ending over reported commands (first_cycle e s) pieces
-  Debugged limit ending over reported (Err fault) pieces = ⊥
+  abbrev pub Debugged : Known → ℕ → Ending → ℕ → Ending → Result (List Spoken) CommandFault → List (List ℕ) → Type 0
+  Debugged known limit ending over reported (Ok commands) pieces =
+      AllAnswered e known.labels (max limit (first_cycle e s)) all_points ending over reported commands (first_cycle e s) pieces
+  Debugged known limit ending over reported (Err fault) pieces = ⊥
 
-  -- A run up to a limit, of whose code this is known, which has these points behind its start and is over so in cycle `over`, is shown so: these pieces are
+  -- A run up to a limit, of whose code this is known, with these points behind its start, which is over so in cycle `over`, is shown so: these pieces are
   -- written, and this end is reported.
-  abbrev pub IsShown : Known → ℕ → (List (List ℕ) → Type 0) → Ending → ℕ → Ending → Show (List ℕ) → List (List ℕ) → Type 0
-  IsShown known limit InTime ending over reported (Plain (Trace columns)) pieces =
+  abbrev pub IsShown : Known → ℕ → List Shown → Ending → ℕ → Ending → Show (List ℕ) → List (List ℕ) → Type 0
+  IsShown known limit run ending over reported (Plain (Trace columns)) pieces =
       (pieces ≡ trace_text e columns points (last_point all_points)) × (reported ≡ ending)
-  IsShown known limit InTime ending over reported (Plain Pictures) pieces =
-      ArePictures e all_points (windows_ended (first_cycle e s)) (windows_ended over) pieces × InTime pieces × (reported ≡ ending)
-  IsShown known limit InTime ending over reported (Commands text echo) pieces = Debugged limit ending over reported (commands_of Chip8 known.names echo limit text) pieces
-  IsShown known limit InTime ending over reported (Plain State) pieces = (limit ≤ most_cycles → IsStateOf e (last_point all_points) pieces) × (reported ≡ ending)
-  IsShown known limit InTime ending over reported (Plain Profile) pieces = (pieces ≡ profile_of e all_points) × (reported ≡ ending)
-  IsShown known limit InTime ending over reported (Plain (Summary number)) pieces =
+  IsShown known limit run ending over reported (Plain Pictures) pieces = ShowsPictures e run pieces × (reported ≡ ending)
+  IsShown known limit run ending over reported (Commands text echo) pieces =
+      Debugged known limit ending over reported (commands_of Chip8 known.names echo limit text) pieces
+  IsShown known limit run ending over reported (Plain State) pieces = IsStateOf e (last_point all_points) pieces × (reported ≡ ending)
+  IsShown known limit run ending over reported (Plain Profile) pieces = (pieces ≡ profile_of e all_points) × (reported ≡ ending)
+  IsShown known limit run ending over reported (Plain (Summary number)) pieces =
       (pieces ≡ summary_text e number (windows_ended over - windows_ended (first_cycle e s)) points (last_point all_points)) × (reported ≡ ending)
 
 -- ---- a command
 
--- A run from a start under the keys of a script up to a limit has a transcript by this law, which is over in cycle `over`. It is shown so, and this status
--- and this report are those of the end that is reported.
-pub record Transcribed (law : RunLaw) (known : Known) (e : Edition) (s : Start) (keys : Option (List ℕ)) (limit : ℕ) (show : Show (List ℕ)) (pieces : List (List ℕ))
+-- A run from a start under the keys of a script up to a limit has the points and the end of the language's time, and is over in cycle `over`; so it is a
+-- run of CHIP-8. It is shown so, and this status and this report are those of the end that is reported.
+pub record Transcribed (known : Known) (e : Edition) (s : Start) (keys : Option (List ℕ)) (limit : ℕ) (show : Show (List ℕ)) (pieces : List (List ℕ))
     (status : Status) (report : List ℕ) : Type 0 where
   pub script : List Event
   pub reads : script_in keys ≡ Ok script
   pub points : List Point
   pub ending : Ending
   pub over : ℕ
-  pub transcript : law.transcript e s script limit points ending over
+  pub timed : Shows e script limit (shown_from e s script limit) points ending over
+  pub chip8 : IsRun e s script limit points ending over
   pub reported : Ending
-  pub shown : IsShown e s points known limit (law.pictures e s script limit) ending over reported show pieces
+  pub shown : IsShown e s points known limit (shown_from e s script limit) ending over reported show pieces
   pub status_is : status ≡ end_status reported
   pub report_is : report ≡ end_report limit reported
 
@@ -161,15 +145,20 @@ From (beginning.Game code edition) Here = Of (GameComes edition code) (λ game. 
 From (beginning.State file) Here = FromFile file (λ e. Here e (Saved file))
 From (beginning.Made made) Here = Here Usual (Reset (made_game made))
 
--- what a request writes and reports, where it runs a game, by a law of runs
-abbrev pub TranscribesBy : RunLaw → Loaded → List (List ℕ) → Status → List ℕ → Type 0
-TranscribesBy law (Run run) pieces status report =
-    From run.start (λ e s. Transcribed law (known_in run.start) e s run.keys run.limit run.show pieces status report)
-TranscribesBy law _ pieces status report = Unit {0}
-
--- that of a run of the language, and that of the run in its time
+-- what a request writes and reports, where it runs a game
 abbrev pub Transcribes : Loaded → List (List ℕ) → Status → List ℕ → Type 0
-Transcribes = TranscribesBy of_language
+Transcribes (Run run) pieces status report =
+    From run.start (λ e s. Transcribed (known_in run.start) e s run.keys run.limit run.show pieces status report)
+Transcribes _ pieces status report = Unit {0}
 
-abbrev pub TranscribesInTime : Loaded → List (List ℕ) → Status → List ℕ → Type 0
-TranscribesInTime = TranscribesBy in_time
+-- ---- a run without a point
+
+-- it begins at reset, and its limit is below the cycle of the first point
+abbrev pub LacksPoint : ℕ → Start → Type 0
+LacksPoint limit (Reset game) = limit < boot_cycle
+LacksPoint limit (Saved file) = ⊥
+
+-- so a request to save one has nothing to save
+abbrev pub SavesNone : Loaded → Type 0
+SavesNone (Run run) = (run.show ≡ Plain State) × From run.start (λ e s. LacksPoint run.limit s)
+SavesNone _ = ⊥

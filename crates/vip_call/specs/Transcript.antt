@@ -1,17 +1,16 @@
 -- What is written of a game's run, as a transcript of CHIP-8: points of the language under a key script, and their texts. No machine is spoken of.
-use Rattle.std.specs.Prelude.{◌≡◌, ℕ, ◌+◌, ◌-◌, ◌<◌, ◌≤◌, nat_lt, if◌then◌else◌, List, [], ◌∷◌, ◌++◌, length, map, filter, slice_get, Option, Some, None, codes}
+use Rattle.std.specs.Prelude.{◌≡◌, ℕ, ◌+◌, ◌<◌, ◌≤◌, if◌then◌else◌, List, [], ◌∷◌, ◌++◌, length, map, Option, Some, None, codes}
 use Rattle.std.specs.List.{last_or, range_with_len}
 use Rattle.machine.specs.Keys.{Event}
-use Rattle.machine.specs.Pictures.{window_end}
 use Rattle.chip8_lang.specs.declared.view.Edition.{Edition}
 use Rattle.chip8_lang.specs.declared.view.Stop.{Stop}
 use Rattle.chip8_lang.specs.Between.{Between, keys_between, ticks_between}
-use Rattle.chip8_lang.specs.Bounds.{IsInTime, boot_bound, bound_of}
+use Rattle.chip8_lang.specs.Bounds.{IsInTime, bound_of}
 use Rattle.chip8_lang.specs.Editions.{rows_of}
 use Rattle.chip8_lang.specs.Screen.{Pixels}
 use Rattle.chip8_lang.specs.State.{Lang, first}
 use Rattle.chip8_lang.specs.Step.{stop_of}
-use Rattle.chip8_lang.specs.Timed.{Shown}
+use Rattle.chip8_lang.specs.Timed.{Shown, boot_cycle}
 use Rattle.chip8_lang.specs.Timed.Shown.{Picture, Point as PointAt, End}
 use Rattle.chip8_lang.specs.View.{opcode_at, view_of}
 use Rattle.rom_law.specs.Pictures.{ShowsScreen}
@@ -66,13 +65,13 @@ module _ (e : Edition) (script : List Event) (limit : ℕ) where
   GoesOn p [] ending t = Ends p ending t
   GoesOn p (q ∷ qs) ending t = StepsTo p q × GoesOn q qs ending t
 
-  -- these are the points of the game's run: there are none only where the limit leaves no time for the first
+  -- these are the points of the game's run: there are none only where the limit is below the cycle of the first
   abbrev pub Begins : List ℕ → List Point → Ending → ℕ → Type 0
-  Begins game [] ending t = (limit < boot_bound) × (ending ≡ AtLimit) × (t ≡ limit)
-  Begins game (p ∷ ps) ending t = (p.state ≡ first e game) × (p.cycle ≤ boot_bound) × (p.cycle ≤ limit) × GoesOn p ps ending t
+  Begins game [] ending t = (limit < boot_cycle) × (ending ≡ AtLimit) × (t ≡ limit)
+  Begins game (p ∷ ps) ending t = (p.state ≡ first e game) × (p.cycle ≡ boot_cycle) × (p.cycle ≤ limit) × GoesOn p ps ending t
 
-  -- The same with no choice left: these are the points that a run in the language's time shows, in their cycles, and it ends so: at its limit, where it
-  -- shows no stop, or at the stop, which is named with pc and opcode of its state.
+  -- These are the points that a run in the language's time shows, in their cycles, and it ends so: at its limit, where it shows no stop, or at the stop,
+  -- which is named with pc and opcode of its state.
   abbrev pub Shows : List Shown → List Point → Ending → ℕ → Type 0
   Shows [] [] ending t = (ending ≡ AtLimit) × (t ≡ limit)
   Shows (Picture m screen ∷ shown) points ending t = Shows shown points ending t
@@ -80,12 +79,9 @@ module _ (e : Edition) (script : List Event) (limit : ℕ) where
   Shows (End c s stop ∷ shown) [] ending t = (ending ≡ AtStop stop s.pc (opcode_at e s)) × (t ≡ c)
   Shows _ _ ending t = ⊥
 
--- the last of some points, and the last one before a cycle
+-- the last of some points
 abbrev pub last_point : List Point → Option Point
 last_point = last_or None
-
-abbrev pub point_before : ℕ → List Point → Option Point
-point_before t points = last_point (filter (λ p. nat_lt p.cycle t) points)
 
 -- ---- what is written
 
@@ -122,24 +118,13 @@ module _ (e : Edition) where
   abbrev pub profile_of : List Point → List (List ℕ)
   profile_of points = profile_text (map (λ p. view_of e p.state p.cycle) points) ∷ []
 
-  -- `play` in the language's time: the pictures that a run shows, in order
+  -- `play`: the pictures that a run shows, in order
   abbrev pub ShowsPictures : List Shown → List (List ℕ) → Type 0
   ShowsPictures [] [] = Unit {0}
   ShowsPictures (Picture m pixels ∷ shown) (file ∷ files) = IsPictureOf pixels file × ShowsPictures shown files
   ShowsPictures (PointAt c s ∷ shown) files = ShowsPictures shown files
   ShowsPictures (End c s stop ∷ shown) files = ShowsPictures shown files
   ShowsPictures _ _ = ⊥
-
-module _ (e : Edition) (points : List Point) where
-  -- `play`: the pictures of the frames from k up to, and without, n, each of the screen at the last point before its window's end
-  pub record IsPicture (m : ℕ) (file : List ℕ) : Type 0 where
-    pub point : Point
-    pub before : point_before (window_end m) points ≡ Some point
-    pub shows : IsPictureOf e point.state.screen file
-
-  pub record ArePictures (k n : ℕ) (files : List (List ℕ)) : Type 0 where
-    pub count : length files ≡ n - k
-    pub each : (j : ℕ) (file : List ℕ) → slice_get files j ≡ Some file → IsPicture (k + j) file
 
 -- the end of a run, as the debugger's commands name it
 abbrev pub end_line : Ending → List ℕ

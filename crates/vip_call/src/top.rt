@@ -8,6 +8,7 @@ ghost use Rattle.vip_call.specs.Top.{call_of, EveryCall, IsFinished, Promises};
 use chip8_source::laws::source_gives_rom;
 use cycle_check::laws::accepted_leaves;
 use game_check::laws::certified_games;
+use rom_board::bounds::least_bounds;
 use rom_board::language::{every_frame, every_run, every_start, every_time, file_may_start};
 use rom_board::saved::saved_joins;
 use std::alloc::Global;
@@ -92,6 +93,7 @@ pub fn every_call()
     every_start();
     every_time();
     every_frame();
+    least_bounds();
     file_may_start();
     saved_joins();
     goes_on_behind();

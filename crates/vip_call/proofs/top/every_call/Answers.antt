@@ -5,7 +5,7 @@ use Rattle.vip_call.proofs.Outcomes.{roms_given}
 use Rattle.vip_call.proofs.LinkedLemmas.{brings_messages}
 use Rattle.vip_call.proofs.LanguageLemmas.{speaks_chip8}
 use Rattle.vip_call.proofs.SavedLemmas.{continues_saved, saves_shown}
-use Rattle.vip_call.proofs.TranscribedLemmas.{tells_chip8, tells_timed}
+use Rattle.vip_call.proofs.TranscribedLemmas.{tells_timed}
 use Rattle.vip_call.proofs.TopLemmas.{completes, gives_due, never_of_rom, refuses_words, says_finished}
 use Rattle.vip_call.proofs.top.every_call.Goals as goal
 
@@ -20,16 +20,13 @@ returns c words files files' out out' err err' opened status opens finishes =
           (λ e f bytes a script limit. c.every_start.ensures e (shown f) (c.file_may_start.ensures e f bytes a) script limit)
           c.every_frame.ensures.from_reset
           (λ e f bytes a script. c.every_frame.ensures.from_any_start e (shown f) (c.file_may_start.ensures e f bytes a) script) _;
-      chip8 =
-          tells_chip8 c.every_run.ensures
-          (λ e f bytes a script limit. c.every_start.ensures e (shown f) (c.file_may_start.ensures e f bytes a) script limit)
-          (saves_shown c.saved_joins.ensures) _ _ says;
       timed =
           tells_timed c.every_run.ensures
           (λ e f bytes a script limit. c.every_start.ensures e (shown f) (c.file_may_start.ensures e f bytes a) script limit)
           c.every_time.ensures.from_reset
           (λ e f bytes a script limit. c.every_time.ensures.from_any_start e (shown f) (c.file_may_start.ensures e f bytes a) script limit)
-          (saves_shown c.saved_joins.ensures) _ _ says;
+          (saves_shown c.saved_joins.ensures) roms _ _ says;
+      least = c.least_bounds.ensures;
       certified = proves_certified c.accepted_leaves.ensures c.certified_games.ensures c.every_run.ensures _;
       saved = continues_saved c.saved_joins.ensures c.goes_on_behind.ensures _;
       checked = checks_sources _;
