@@ -1,5 +1,6 @@
 pub mod Answered
 pub mod Below
+pub mod Departing
 pub mod Effects
 pub mod Growth
 pub mod Lookup

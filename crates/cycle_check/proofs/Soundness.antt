@@ -1,12 +1,13 @@
 -- An accepted certificate holds of the machine: its lines bound what is left of every run that stays inside.
 use Rattle.std.proofs.Common.{◌≡◌, ◌≢◌, ℕ, ◌+◌, ◌-◌, ◌<◌, ◌≤◌, inl, inr, Bool, true, false, not, ◌&&◌, ◌||◌, eqb, leb, List, [], ◌∷◌, length, ltb, Option, Some, None, Result, Ok, Err, refl, sym, ap, subst, ◌∙◌, arith, true≢false, suc}
 use Rattle.std.specs.Prelude.{MatchOption, All, is_some, is_none, ok_or, codes, if◌then◌else◌}
+use Rattle.std.specs.List.{Any as AnyOf}
 use Rattle.std.specs.Option.{option_and_then, option_map_or}
 use Rattle.std.specs.Result.{result_ok}
 use Rattle.std.specs.Str.{bytes_eq}
 use Rattle.std.specs.Str.Lines.{lines}
 use Rattle.std.specs.Str.Parse.{digits_value}
-use Rattle.std.proofs.lemmas.Bool.{and_parts, or_cases, not-true, cases_Bool, eqb-true, eqb-false, eq-eqb, leb-true, le-leb, lt-ltb, le-ltb, ltb-false}
+use Rattle.std.proofs.lemmas.Bool.{and_parts, or_cases, not-true, cases_Bool, eqb-true, eqb-false, eq-eqb, leb-true, le-leb, lt-ltb, le-ltb, ltb-false, cases_eq}
 use Rattle.machine.specs.declared.Kind.{Kind}
 use Rattle.machine.specs.declared.Kind.TheVariants.{Lbr}
 use Rattle.machine.specs.Bank.{Word, value, up, get, put}
@@ -35,14 +36,16 @@ use Rattle.cycle_check.specs.declared.table.Way.{Way}
 use Rattle.cycle_check.specs.declared.table.Ways.{Ways}
 use Rattle.cycle_check.specs.declared.closed.Instruction as declared
 use Rattle.cycle_check.specs.Certificate.{address_of, digit_of, decimal_of, hex_of, bound_in, bound_of, certificate_of, certificate_format, most_limit, numbers_from}
-use Rattle.cycle_check.specs.Table.{is_refused, assigns_named, assigns_pointed, flow_of, ways_of, x_after}
+use Rattle.cycle_check.specs.Table.{is_refused, assigns_named, assigns_pointed, flow_of, none as no_ways, ways_of, x_after}
+use Rattle.cycle_check.specs.Exits.{exits, exits_at, exits_with}
 use Rattle.cycle_check.specs.Closed.{left, known_d, line_at, byte_at, instruction_at, is_apart, is_allowed, is_open, is_shown, fits_x, pays_for, counter_after, is_kept, holds_at, line_behind, is_way_closed, are_ways_closed, ways_at, is_closed, cause_at, takes_all, is_any, is_entered, fault_in, first_from, unless, judged, checked}
-use Rattle.cycle_check.specs.Leaving.{Outside, instructed, after, is_inside, StaysInside, Leaves, IsWithin, AcceptedIsWithin}
+use Rattle.cycle_check.specs.Leaving.{Outside, instructed, after, is_inside, StaysInside, IsBehind, IsMoveOf, Leaves, LeavesByExits, IsWithin, AcceptedIsWithin}
 use Rattle.cycle_check.proofs.Below.{passes_at, left_rises}
 use Rattle.cycle_check.proofs.Growth.{bind-ok, ok_is}
 use Rattle.cycle_check.proofs.Lookup.{address_of-found, cause_of-found}
 use Rattle.machine.proofs.Registers.{get_put, get_put_other}
-use Rattle.cycle_check.proofs.Effects.{Stands, Goes, GoesOneOf, goes, x_is, p_is}
+use Rattle.cycle_check.proofs.Effects.{Stands, Goes, GoesOneOf, goes, x_is, p_is, p_then}
+use Rattle.cycle_check.proofs.Departing.{EndsAt, IsGone, Any-at_line, Any-map, bank-stays, gone, gone_off, no-line, ways-none}
 use Rattle.cycle_check.proofs.Shown.{Knows, FactHolds, Follows, Allowed, known_d-holds, admits-holds, open-known, x_after-holds, fits_x-holds, pays_for-at, counter-follows, shown-holds}
 
 -- ---- the ROM and the latch
@@ -205,17 +208,20 @@ module _ (bound : Bound) (listed : List Line) (line : Line) (i : declared.Instru
     pub on : after_it.p ≡ s.p → (next : Line) → line_at listed (value (get after_it.r s.p)) ≡ Some next
         → Holds bound.k next after_it × (i.cycles + left next (get after_it.r bound.k).lo ≤ left line (get s.r bound.k).lo)
 
+  went : Runs → GoesOneOf ((effect kind n s reads).regs.p ≡ s.p) s.d (value (get (effect kind n s reads).regs.r s.p)) (ways_at bound line i)
+  went runs =
+      let allows = may runs in
+      let M : ℕ → Type 0 = λ p. GoesOneOf ((effect kind n s reads).regs.p ≡ s.p) s.d (value (get (effect kind n s reads).regs.r s.p))
+      (ways_of (flow_of kind n p) (size_of kind) line.address i.next i.after) in
+      rw (runs.kind_is, runs.n_is, runs.size_is) (subst M runs.p_is (goes kind n s reads line.address i.next i.after
+      (stands runs) allows.fine allows.p_fits allows.x_fits allows.n_fits allows.named allows.pointed))
+
   pub comes : Runs → StepPays (effect kind n s reads).regs
   unfolding is_closed
   comes runs =
       let allows = may runs in
-      let M : ℕ → Type 0 = λ p. GoesOneOf ((effect kind n s reads).regs.p ≡ s.p) s.d (value (get (effect kind n s reads).regs.r s.p))
-      (ways_of (flow_of kind n p) (size_of kind) line.address i.next i.after) in
-      let went : GoesOneOf ((effect kind n s reads).regs.p ≡ s.p) s.d (value (get (effect kind n s reads).regs.r s.p)) (ways_at bound line i) =
-      rw (runs.kind_is, runs.n_is, runs.size_is) (subst M runs.p_is (goes kind n s reads line.address i.next i.after
-      (stands runs) allows.fine allows.p_fits allows.x_fits allows.n_fits allows.named allows.pointed)) in
       let way = chosen ((effect kind n s reads).regs.p ≡ s.p) bound.k listed line i s.d (value (get (effect kind n s reads).regs.r s.p))
-      (ways_at bound line i) runs.closed went in
+      (ways_at bound line i) runs.closed (went runs) in
       let follows = counter-follows n s reads bound.k kind i line.fact allows runs.kind_is runs.n_is runs.holds.fact in
       let kept = kept-at bound.k listed line i way.0 s.d (get s.r bound.k).lo way.1 (get_fits bound.k s.r runs.fits.r).lo runs.holds.fact way.2.0 in
       record {
@@ -233,6 +239,22 @@ module _ (bound : Bound) (listed : List Line) (line : Line) (i : declared.Instru
               to.pays,
             );
       }
+
+  -- it leaves by one of the exits of its line, where it comes to no line
+  pub departs : (rom : List ℕ) → Runs → value (get (effect kind n s reads).regs.r s.p) < 65536
+      → ((effect kind n s reads).regs.p ≡ s.p → line_at listed (value (get (effect kind n s reads).regs.r s.p)) ≡ None)
+      → AnyOf (IsGone listed line.address s.p (effect kind n s reads).regs) (exits_with rom listed line (ways_at bound line i))
+  departs rom runs small outside = elim (cases_eq (effect kind n s reads).regs.p s.p) [
+    | inl same ↦
+        gone rom listed line i.size i.next i.after s.d (get s.r bound.k).lo s.p (effect kind n s reads).regs (flow_of i.op.kind i.op.n bound.p)
+        runs.holds.fact small same (outside same) (went runs)
+    | inr other ↦
+        let changed : p_then kind n s.p ≡ s.p → ⊥ = λ is. other (p_is kind n s reads (may runs).fine ∙ is) in
+        let none_on : ways_at bound line i ≡ no_ways =
+        rw (runs.kind_is, runs.n_is, ← runs.p_is) (ways-none kind n s.p i.size line.address i.next i.after changed) in
+        rw none_on (gone_off rom listed line s.p (effect kind n s reads).regs other
+        (ap (λ r. value (get r s.p)) (bank-stays kind n s reads changed) ∙ runs.behind))
+  ]
 
 -- ---- one move of the machine
 
@@ -390,6 +412,47 @@ module _ (rom : List ℕ) (fits_rom : FitsRom rom) (bound : Bound) (listed : Lis
       (λ k d within. taken (suc k) d (omega arith)) inside.1 in
       omega (arith, rest, move.pays)
 
+  -- a move that doesn't end inside, from a state that is covered, is that of an exit
+  abbrev Left : Outside → Machine → Type 0
+  Left o b = AnyOf (IsMoveOf rom bound listed b (instructed rom o b)) (exits rom bound listed)
+
+  departs_at : (o : Outside) (b : Machine) (budget : ℕ) → FitsMachine b → b.latch ≡ false → b.regs.p ≡ bound.p → o.taken < 256 → Covered b budget
+      → is_inside rom bound listed (instructed rom o b) ≡ false → Left o b
+  unfolding exits_at
+  departs_at o b budget fits clear p_is taken covered outside =
+      let line = covered.line in
+      let run = runs o b covered.line fits clear p_is covered.found covered.holds in
+      let move = moves o b budget fits clear p_is taken covered in
+      let word = get_fits b.regs.p (instructed rom o b).regs.r move.fits.regs.r in
+      let e = instruction b.regs (byte_of rom b) o.flag o.taken in
+      let left = departs bound listed covered.line (instruction_at rom covered.line.address) (kind_of (opcode_of rom b)) (opcode_number (opcode_of rom b))
+      (stepped b.regs b.regs.p) (inputs (stepped b.regs b.regs.p) (byte_of rom b) o.flag o.taken) rom run (omega (arith, word.hi, word.lo))
+      (λ same. no-line listed (instruction b.regs (byte_of rom b) o.flag o.taken).regs
+      (value (get (instruction b.regs (byte_of rom b) o.flag o.taken).regs.r b.regs.p)) bound.p (ap (λ p. value (get (instruction b.regs (byte_of rom b) o.flag o.taken).regs.r p)) p_is) (same ∙ p_is) outside) in
+      Any-at_line (IsMoveOf rom bound listed b (instructed rom o b)) (λ l. exits_at rom bound listed l) listed (at b.regs bound.p) line covered.found
+      (Any-map _ _ (λ exit is. record {
+        from = sym (address_of-found listed (at b.regs bound.p) line covered.found) ∙ sym is.from;
+        to = behind exit.may_return exit.to (instructed rom o b) p_is is.to;
+      }) _ left)
+    where
+      behind : (may_return : Bool) (to : Option ℕ) (b' : Machine) → b.regs.p ≡ bound.p → EndsAt listed b.regs.p b'.regs may_return to
+          → IsBehind rom bound listed b' may_return to
+      behind may_return None b' same is = (λ e. is.0 (e ∙ sym same), is.1 ∙ ap (λ p. is_some (line_at listed (at b'.regs p))) same)
+      behind may_return (Some to) b' same is = (is.0 ∙ same, ap (at b'.regs) (sym same) ∙ is.1)
+
+  departs_in : (list : List Outside) (last : Outside) (b : Machine) (budget : ℕ) → FitsMachine b → b.latch ≡ false
+      → (is_inside rom bound listed b ≡ true → Covered b budget) → All (λ o. o.taken < 256) list → last.taken < 256 → StaysInside rom bound listed list b
+      → is_inside rom bound listed (after rom list b) ≡ true → is_inside rom bound listed (instructed rom last (after rom list b)) ≡ false
+      → Left last (after rom list b)
+  departs_in [] last b budget fits clear covered taken small inside here outside =
+      let both = and_parts (eqb b.regs.p bound.p) (is_some (line_at listed (at b.regs bound.p))) here in
+      departs_at last b budget fits clear (eqb-true b.regs.p bound.p both.0) small (covered here) outside
+  departs_in (o ∷ list) last b budget fits clear covered taken small inside here outside =
+      let both = and_parts (eqb b.regs.p bound.p) (is_some (line_at listed (at b.regs bound.p))) inside.0 in
+      let move = moves o b budget fits clear (eqb-true b.regs.p bound.p both.0) (taken 0 o (omega arith)) (covered inside.0) in
+      departs_in list last (instructed rom o b) (budget - cycles_of (opcode_of rom b)) move.fits move.clear move.on
+      (λ k d within. taken (suc k) d (omega arith)) small inside.1 here outside
+
   entry-covers : (b : Machine) (line : Line) → FitsMachine b → line_at listed (at b.regs bound.p) ≡ Some line → takes_all bound line ≡ true
       → Covered b bound.limit
   entry-covers b line fits found takes =
@@ -407,17 +470,25 @@ module _ (rom : List ℕ) (fits_rom : FitsRom rom) (bound : Bound) (listed : Lis
         );
       }
 
-  pub leaves : is_entered bound listed ≡ true → Leaves rom bound listed
+  covered_at : is_entered bound listed ≡ true → (b : Machine) → FitsMachine b → at b.regs bound.p ≡ bound.entry → Covered b bound.limit
   unfolding is_entered
-  leaves entered b fits clear p_is at_entry list taken inside =
+  covered_at entered b fits at_entry =
       let line = entered-line (line_at listed bound.entry) entered in
       let found : line_at listed (at b.regs bound.p) ≡ Some line.0 = ap (line_at listed) at_entry ∙ line.1 in
-      stays list b bound.limit fits clear (λ _. entry-covers b line.0 fits found line.2) taken inside
+      entry-covers b line.0 fits found line.2
     where
       entered-line : (found : Option Line) → option_map_or (takes_all bound) found false ≡ true
           → (line : Line) × (found ≡ Some line) × (takes_all bound line ≡ true)
       entered-line None is = absurd (true≢false (sym is))
       entered-line (Some line) is = (line, refl, is)
+
+  pub leaves : is_entered bound listed ≡ true → Leaves rom bound listed
+  leaves entered b fits clear p_is at_entry list taken inside =
+      stays list b bound.limit fits clear (λ _. covered_at entered b fits at_entry) taken inside
+
+  pub leaves_by_exits : is_entered bound listed ≡ true → LeavesByExits rom bound listed
+  leaves_by_exits entered b fits clear p_is at_entry list last taken small inside here outside =
+      departs_in list last b bound.limit fits clear (λ _. covered_at entered b fits at_entry) taken small inside here outside
 
 -- ---- the registers of a bound
 
@@ -527,6 +598,9 @@ within-from rom text within statements (Some bound) fits says bounded is =
       entry = accepted.entry;
       limit = accepted.limit;
       leaves = leaves rom fits bound (certificate_of statements).lines registers.0 registers.1
+          (λ a line found. cause_of-found (cause_at rom bound (certificate_of statements).lines) 1
+          (certificate_of statements).lines a line accepted.fine found) accepted.entered;
+      by_exits = leaves_by_exits rom fits bound (certificate_of statements).lines registers.0 registers.1
           (λ a line found. cause_of-found (cause_at rom bound (certificate_of statements).lines) 1
           (certificate_of statements).lines a line accepted.fine found) accepted.entered;
     }

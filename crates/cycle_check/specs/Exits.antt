@@ -1,5 +1,5 @@
 -- The exits of a certificate: where a routine is left, as its lines say.
-use Rattle.std.specs.Prelude.{ℕ, ◌%◌, ◌==◌, ◌&&◌, if◌then◌else◌, nat_le, nat_lt, is_none, List, [], ◌∷◌, ◌++◌, codes, flat_map, Option, Some, None, option_map, option_and_then, unwrap_or, Result, Ok, Err}
+use Rattle.std.specs.Prelude.{ℕ, ◌+◌, ◌%◌, ◌==◌, ◌&&◌, if◌then◌else◌, nat_le, nat_lt, is_none, is_some, Bool, true, false, List, [], ◌∷◌, ◌++◌, codes, flat_map, Option, Some, None, option_map, option_and_then, unwrap_or, Result, Ok, Err}
 use Rattle.vip_byte.specs.HexText.{hex4}
 use Rattle.vip_byte.specs.Reading.{read}
 use Rattle.vip_isa.specs.Texts.{instruction_text}
@@ -12,13 +12,20 @@ use Rattle.cycle_check.specs.declared.table.Ways.{Ways}
 use Rattle.cycle_check.specs.declared.exits.Exit.{Exit}
 use Rattle.cycle_check.specs.Certificate.{certificate_format, certificate_of}
 use Rattle.cycle_check.specs.FaultNames.{timing_cause_name}
-use Rattle.cycle_check.specs.Closed.{bytes_at, instruction_at, lets_through, line_behind, ways_at}
+use Rattle.cycle_check.specs.Closed.{bytes_at, instruction_at, lets_through, line_at, line_behind, ways_at}
 
--- the exit on a way: the fact of its line lets it through, and no line is at its end
+-- The exit on a way: the fact of its line lets it through, and no line is at its end. Behind SEP of another register R(P) stands at the next address: where
+-- that has a line, the routine may go on there.
 unfoldable pub exit_on : List ℕ → List Line → Line → Way → Option Exit
 exit_on rom lines line way =
     if lets_through line.fact way.when && is_none (line_behind lines way)
-    then Some (record { address = line.address; bytes = bytes_at rom line.address; to = option_map (λ to. to % 65536) way.to }) else None
+    then Some (record {
+      address = line.address;
+      bytes = bytes_at rom line.address;
+      to = option_map (λ to. to % 65536) way.to;
+      may_return = is_none way.to && is_some (line_at lines (line.address + 1));
+    })
+    else None
 
 -- one or two exits, by their next address, each once
 abbrev pub next_of : Exit → ℕ
@@ -59,9 +66,13 @@ exits_in rom text = exits_of rom (read certificate_format text)
 
 -- ---- their texts
 
--- where an exit leads: to an address, or by an instruction with which another register is the program counter
+-- where an exit leads: to an address, or by an instruction with which another register is the program counter, and whether the routine goes on behind it
+abbrev pub return_text : Bool → List ℕ
+return_text true = codes ", and may come back"
+return_text false = []
+
 abbrev pub end_text : Exit → Option ℕ → List ℕ
-end_text exit None = codes " by " ++ instruction_text exit.address exit.bytes
+end_text exit None = codes " by " ++ (instruction_text exit.address exit.bytes ++ return_text exit.may_return)
 end_text exit (Some to) = codes " to " ++ hex4 to
 
 unfoldable pub exit_line : Exit → List ℕ

@@ -4,11 +4,11 @@ ghost use Rattle.std.specs.Prelude.{◌≡◌, ◌%◌, ◌++◌, OnOk, IfOk, So
 ghost use Rattle.std.specs.List.{All};
 ghost use Rattle.vip_byte.specs.Room.{HasRoom};
 ghost use Rattle.cycle_check.specs.Closed.{ways_at};
-ghost use Rattle.cycle_check.specs.Exits.{end_text, exit_line, exit_on, exits, exits_at, exits_with, in_order};
+ghost use Rattle.cycle_check.specs.Exits.{end_text, exit_line, exit_on, exits, exits_at, exits_with, in_order, return_text};
 ghost use Rattle.cycle_check.specs.Found.{leaves_rom};
 ghost use Rattle.cycle_check.specs.Reading.{AreRising};
 
-use crate::closed::{bytes_at, instruction_at, lets_through, line_behind, ways_from};
+use crate::closed::{bytes_at, instruction_at, lets_through, line_at, line_behind, ways_from};
 use crate::grammar::{Bound, Line};
 use crate::table::Way;
 use std::alloc::{AllocError, Global};
@@ -22,13 +22,15 @@ pub struct Exit {
     pub address: u16,
     pub bytes: [u8; 3],
     pub to: Option<u16>,
+    /// Whether another register is the program counter then, and the address behind has a line: where the routine's register is it again, it goes on there.
+    pub may_return: bool,
 }
 
 impl Exit {
-    /// Appends its line: `leaves at 8007 by SEP R4`, or `leaves at 8002 to 8003`.
+    /// Appends its line: `leaves at 8007 by SEP R4`, `leaves at 8046 by SEP R5, and may come back`, or `leaves at 8002 to 8003`.
     #[tactic(auto, unfolding(crate::specs::Exits::exit_line))]
     pub fn put(&self, into: &mut Buffer)
-        requires { HasRoom into.old.items 40 }
+        requires { HasRoom into.old.items 60 }
         ensures { into.new.items ≡ into.old.items ++ exit_line self.now }
     {
         put(into, b"leaves at ");
@@ -39,7 +41,7 @@ impl Exit {
 
     // Appends where it leads.
     fn put_end(&self, into: &mut Buffer)
-        requires { HasRoom into.old.items 20 }
+        requires { HasRoom into.old.items 40 }
         ensures items { into.new.items ≡ into.old.items ++ end_text self.now self.now.to }
         ensures room { HasRoom into.new.items 1 }
     {
@@ -51,6 +53,7 @@ impl Exit {
             None => {
                 put(into, b" by ");
                 put(into, instruction_text(self.address, self.bytes).as_slice());
+                put(into, return_text(self.may_return));
             }
         }
     }
@@ -64,6 +67,17 @@ impl Exit {
             Some(to) => !(0x8000..0x8800).contains(&to),
             None => true,
         }
+    }
+}
+
+// What is told of an exit behind its instruction.
+fn return_text(may_return: bool) -> &'static [u8]
+    ensures { result.now ≡ return_text may_return }
+{
+    if may_return {
+        b", and may come back"
+    } else {
+        b""
     }
 }
 
@@ -156,6 +170,7 @@ fn exit_on(rom: &[u8], lines: &[Line], line: &Line, way: Way) -> Option<Exit>
             address: line.address,
             bytes: bytes_at(rom, line.address),
             to: low_word(way.to),
+            may_return: way.to.is_none() && line_at(lines, u32::from(line.address) + 1).is_some(),
         })
     } else {
         None

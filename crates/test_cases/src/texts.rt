@@ -95,6 +95,7 @@ pub fn try_exits() -> Counts<'static> {
             address: 0x8000,
             bytes: [0; 3],
             to: Some(*to),
+            may_return: false,
         };
         counts.add(exit.leaves_rom() == *leaves, "an exit");
     }
