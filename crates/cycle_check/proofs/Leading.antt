@@ -1,6 +1,6 @@
 -- What is known at an address to which ways lead, and why a search ends there.
-use Rattle.std.proofs.Common.{◌≡◌, ℕ, ◌+◌, ◌&&◌, ◌||◌, not, Bool, true, false, true≢false, eqb, leb, Option, Some, None, List, get_or, refl, sym, ap, subst, ◌∙◌, arith, inl, inr, replicate, ◌<◌}
-use Rattle.std.specs.Prelude.{slice_set}
+use Rattle.std.proofs.Common.{◌≡◌, ℕ, ◌+◌, ◌≤◌, ◌&&◌, ◌||◌, not, Bool, true, false, true≢false, eqb, leb, Option, Some, None, List, get_or, refl, sym, ap, subst, ◌∙◌, arith, inl, inr, replicate, ◌<◌}
+use Rattle.std.specs.Prelude.{MatchOption, is_some, slice_set}
 use Rattle.std.proofs.lemmas.Bool.{and_parts, and_from, cases_Bool, cases_eq, eqb-true, eq-eqb, or_cases, or_parts}
 use Rattle.std.proofs.lemmas.Grind.{get_or-set_at}
 use Rattle.std.proofs.lemmas.List.{get_or-replicate, get_or-set_other, length-replicate, length-set}
@@ -15,12 +15,11 @@ use Rattle.cycle_check.specs.declared.closed.Instruction.{Instruction}
 use Rattle.cycle_check.specs.declared.known.Knowledge.{Knowledge}
 use Rattle.cycle_check.specs.declared.table.Way.{Way}
 use Rattle.cycle_check.specs.Table.{assigns_d, assigns_named, assigns_pointed, is_refused, x_after}
-use Rattle.cycle_check.specs.Closed.{fits_x, instruction_at, is_allowed, is_apart, is_loaded, is_shown, stays_loaded}
+use Rattle.cycle_check.specs.Closed.{fits_x, instruction_at, is_allowed, is_apart, is_loaded, is_open, is_shown, stays_loaded}
 use Rattle.cycle_check.specs.declared.forward.Forward.{Forward}
 use Rattle.cycle_check.specs.Forward.{AllKnown, IsKnown, StaysTrue, byte_after, byte_shows, common, is_known_behind, join, kept_byte, known_behind, some_shows}
-use Rattle.cycle_check.specs.Obstacles.{IsLost, IsRefused, IsWay, LeadsTo, MayBeAllowed}
-use Rattle.cycle_check.specs.Obstacles.LeadsTo.{Enters, Goes}
-use Rattle.cycle_check.specs.Obstacles.IsLost.{Passes, Unknown}
+use Rattle.cycle_check.specs.Obstacles.{IsLost, IsPassed, IsRefused, IsWay, LeadsTo, MayBeAllowed}
+use Rattle.cycle_check.specs.Obstacles.Met.{Enters, Goes, Passes, Unknown}
 
 -- ---- X
 
@@ -188,17 +187,26 @@ module _ (rom : List ℕ) (bound : Bound) where
   lost_of address known h says.NonZero gone = h.some gone
   lost_of address known h (says.Is byte) gone = h.byte byte gone
 
+  -- a way that is open for the byte that D is known to be
+  pub open_passed : (address : ℕ) (known : Knowledge) (way : Way) → IsKnown rom bound address known → is_open way.when known.byte ≡ true
+      → IsPassed rom bound address way
+  open_passed address known way h opens byte closed =
+      h.byte byte (λ is. true≢false (sym (subst (λ d. is_open way.when d ≡ true) is opens) ∙ closed))
+
   -- ---- behind an instruction
 
   module _ (address to : ℕ) (known : Knowledge) (way : Way) (h : IsKnown rom bound address known) (may : MayBeAllowed rom bound address)
-      (is_way : IsWay rom bound address way to) where
+      (is_way : IsWay rom bound address way to) (opens : is_open way.when known.byte ≡ true) where
     abbrev i : Instruction
     i = instruction_at rom address
+
+    passed : IsPassed rom bound address way
+    passed = open_passed address known way h opens
 
     shown-lost : (asked : Fact) → is_known_behind bound.k i way.when known asked ≡ false → IsLost rom bound to asked
     unfolding is_known_behind
     shown-lost asked none =
-        Passes address to h.led.0 way asked h.led.1 may is_way
+        Passes address to h.led.0 way asked h.led.1 may is_way passed
         (λ held shown. lost_of address known h held (missing known (λ held. is_shown bound.k i held way.when 0 asked) none held shown))
 
     -- an X that fits all that is given behind it fits what is known there
@@ -223,8 +231,8 @@ module _ (rom : List ℕ) (bound : Bound) where
     pub behind_known : IsKnown rom bound to (known_behind bound.k i way.when known)
     unfolding known_behind
     behind_known = record {
-      led = (x_after i.op.kind i.op.n h.led.0, Goes address to h.led.0 way h.led.1 may is_way);
-      x = λ asked fits. fits-behind i.op.kind i.op.n asked (λ given led. fits (x_after i.op.kind i.op.n given) (Goes address to given way led may is_way));
+      led = (x_after i.op.kind i.op.n h.led.0, Goes address to h.led.0 way h.led.1 may is_way passed);
+      x = λ asked fits. fits-behind i.op.kind i.op.n asked (λ given led. fits (x_after i.op.kind i.op.n given) (Goes address to given way led may is_way passed));
       copy = λ lost. shown-lost says.Copy lost;
       some = λ lost. shown-lost says.NonZero lost;
       byte = byte-lost;
@@ -267,3 +275,9 @@ all_set rom bound places place known all this place' other known' low is = elim 
       rw (same, ← same_Some known known' (sym set ∙ is)) this
   | inr differ ↦ all place' other known' (rw length-set at low) (sym (get_or-set_other places place place' (Some known) other differ) ∙ is)
 ]
+
+-- an address that has a place lies in the ROM
+pub is_inside : (place : Option ℕ) (to : ℕ) → MatchOption place (None ≡ place) (λ p. (0x8000 + p ≡ to) × (p < 2048)) → is_some place ≡ true
+    → (0x8000 ≤ to) × (to < 0x8800)
+is_inside None to is some = absurd (true≢false (sym some))
+is_inside (Some place) to is some = (omega (arith, is), omega (arith, is))

@@ -1,5 +1,5 @@
 -- Why no certificate of a routine was found.
-use Rattle.std.specs.Prelude.{◌≡◌, ℕ, ◌+◌, ◌-◌, ◌%◌, ◌<◌, ◌==◌, ◌&&◌, ◌⊎◌, Bool, true, false, List, length, slice_index, Option, Some, None}
+use Rattle.std.specs.Prelude.{◌≡◌, ℕ, ◌+◌, ◌-◌, ◌%◌, ◌<◌, ◌≤◌, ◌==◌, ◌&&◌, ◌⊎◌, Bool, true, false, List, length, slice_index, Option, Some, None}
 use Rattle.std.specs.List.{All, Any}
 use Rattle.machine.specs.declared.Kind.{Kind}
 use Rattle.machine.specs.declared.Kind.TheVariants.{Inc, Dec, Lda, Plo}
@@ -10,7 +10,7 @@ use Rattle.cycle_check.specs.declared.grammar.Line.{Line}
 use Rattle.cycle_check.specs.declared.table.Way.{Way}
 use Rattle.cycle_check.specs.Table.{x_after}
 use Rattle.cycle_check.specs.Certificate.{most_left}
-use Rattle.cycle_check.specs.Closed.{cause_at, first_from, fits_x, instruction_at, is_allowed, is_closed, is_shown, line_at, ways_from}
+use Rattle.cycle_check.specs.Closed.{cause_at, first_from, fits_x, instruction_at, is_allowed, is_closed, is_open, is_shown, line_at, ways_from}
 
 -- the row assigns R(N).0
 abbrev pub assigns_low : Kind → Bool
@@ -28,7 +28,7 @@ takes_one _ = false
 module _ (rom : List ℕ) (bound : Bound) where
   -- ---- the ways from the entry
 
-  -- one of the ways of the instruction at an address, and that it leads to another address
+  -- one of the ways of the instruction at an address, and that it leads to another address of the ROM
   abbrev pub IsOneOf : ℕ → Way → Type 0
   IsOneOf address way =
       (way ≡ (ways_from bound address (instruction_at rom address)).first)
@@ -37,9 +37,7 @@ module _ (rom : List ℕ) (bound : Bound) where
   pub record IsWay (address : ℕ) (way : Way) (to : ℕ) : Type 0 where
     pub is : IsOneOf address way
     pub leads : way.to ≡ Some to
-
-  abbrev pub LeadsOn : ℕ → ℕ → Type 0
-  LeadsOn address to = (way : Way) × IsWay address way to
+    pub inside : (0x8000 ≤ to) × (to < 0x8800)
 
   -- some line allows the instruction at an address
   pub record MayBeAllowed (address : ℕ) : Type 0 where
@@ -47,29 +45,49 @@ module _ (rom : List ℕ) (bound : Bound) where
     pub of : line.address ≡ address
     pub allowed : is_allowed bound line (instruction_at rom address) ≡ true
 
--- Ways of next addresses lead from the entry to an address, and leave this in X, where it is known. Branches go both ways, and each instruction on the way
--- is one that some line allows.
-pub data LeadsTo (rom : List ℕ) (bound : Bound) : ℕ → Option ℕ → Type 0 where
-  Enters : LeadsTo rom bound bound.entry None
-  Goes : (address to : ℕ) (x : Option ℕ) (way : Way) → LeadsTo rom bound address x → MayBeAllowed rom bound address → IsWay rom bound address way to
-      → LeadsTo rom bound to (x_after (instruction_at rom address).op.kind (instruction_at rom address).op.n x)
+-- What ways do at an address to which they lead: some of them leave this in X, where it is known; and some don't show a fact.
+pub data Said : Type 0 where
+  Gives : Option ℕ → Said
+  Loses : Fact → Said
 
--- A fact is lost at an address: nothing is known at the entry; and some way leads there on which only facts show it that are lost where the way begins.
--- What is shown at the value 0 of the counter is shown at all of them.
-pub data IsLost (rom : List ℕ) (bound : Bound) : ℕ → Fact → Type 0 where
-  Unknown : (fact : Fact) → (fact ≡ says.Any → ⊥) → IsLost rom bound bound.entry fact
-  Passes : (address to : ℕ) (x : Option ℕ) (way : Way) (fact : Fact) → LeadsTo rom bound address x → MayBeAllowed rom bound address
+-- Ways of next addresses lead from the entry to an address. Each instruction on them is one that some line allows, and each way is open: no byte that closes
+-- it is one that D is known to be. A fact is lost where nothing is known, at the entry; and where a way leads on which only facts show it that are lost where
+-- the way begins. What is shown at the value 0 of the counter is shown at all of them.
+pub data Met (rom : List ℕ) (bound : Bound) : ℕ → Said → Type 0 where
+  Enters : Met rom bound bound.entry (Gives None)
+  Unknown : (fact : Fact) → (fact ≡ says.Any → ⊥) → Met rom bound bound.entry (Loses fact)
+  Goes : (address to : ℕ) (x : Option ℕ) (way : Way) → Met rom bound address (Gives x) → MayBeAllowed rom bound address → IsWay rom bound address way to
+      → ((byte : ℕ) → is_open way.when (Some byte) ≡ false → Met rom bound address (Loses (says.Is byte)))
+      → Met rom bound to (Gives (x_after (instruction_at rom address).op.kind (instruction_at rom address).op.n x))
+  Passes : (address to : ℕ) (x : Option ℕ) (way : Way) (fact : Fact) → Met rom bound address (Gives x) → MayBeAllowed rom bound address
       → IsWay rom bound address way to
-      → ((held : Fact) → is_shown bound.k (instruction_at rom address) held way.when 0 fact ≡ true → IsLost rom bound address held)
-      → IsLost rom bound to fact
+      → ((byte : ℕ) → is_open way.when (Some byte) ≡ false → Met rom bound address (Loses (says.Is byte)))
+      → ((held : Fact) → is_shown bound.k (instruction_at rom address) held way.when 0 fact ≡ true → Met rom bound address (Loses held))
+      → Met rom bound to (Loses fact)
 
 module _ (rom : List ℕ) (bound : Bound) where
+  abbrev pub LeadsTo : ℕ → Option ℕ → Type 0
+  LeadsTo address x = Met rom bound address (Gives x)
+
+  abbrev pub IsLost : ℕ → Fact → Type 0
+  IsLost address fact = Met rom bound address (Loses fact)
+
+  -- a way is open where it begins
+  abbrev pub IsPassed : ℕ → Way → Type 0
+  IsPassed address way = (byte : ℕ) → is_open way.when (Some byte) ≡ false → IsLost address (says.Is byte)
+
+  -- an open way leads from one address to another
+  pub record LeadsOn (address to : ℕ) : Type 0 where
+    pub way : Way
+    pub is : IsWay rom bound address way to
+    pub passed : IsPassed address way
+
   -- an X that a line may ask for at an address, whichever way leads there
   abbrev pub FitsAll : ℕ → Option ℕ → Type 0
-  FitsAll address x = (given : Option ℕ) → LeadsTo rom bound address given → fits_x x given ≡ true
+  FitsAll address x = (given : Option ℕ) → LeadsTo address given → fits_x x given ≡ true
 
   abbrev pub IsLed : ℕ → Type 0
-  IsLed address = (given : Option ℕ) × LeadsTo rom bound address given
+  IsLed address = (given : Option ℕ) × LeadsTo address given
 
   -- ---- Opcode
 
@@ -88,16 +106,16 @@ module _ (rom : List ℕ) (bound : Bound) where
   -- it assigns the counter, and doesn't surely take one from it: it is no DEC, or nothing shows there that the counter isn't 0
   pub record MayRaise (address : ℕ) : Type 0 where
     pub assigns : assigns_counter address ≡ true
-    pub how : (takes_one (instruction_at rom address).op.kind ≡ false) ⊎ IsLost rom bound address says.NonZero
+    pub how : (takes_one (instruction_at rom address).op.kind ≡ false) ⊎ IsLost address says.NonZero
 
-  -- A turn leads from an address back to it, each of its addresses to the next one and the last to the first. It isn't counted: no instruction of it
+  -- A turn leads from an address back to it by open ways, each of its addresses to the next one and the last to the first. It isn't counted: no instruction of it
   -- assigns the counter, or some instruction may raise it.
   pub record IsUncounted (address : ℕ) : Type 0 where
     pub led : IsLed address
     pub turn : List ℕ
     pub some : 0 < length turn
     pub begins : slice_index turn 0 ≡ address
-    pub goes : (i : ℕ) → i < length turn → LeadsOn rom bound (slice_index turn i) (slice_index turn ((i + 1) % length turn))
+    pub goes : (i : ℕ) → i < length turn → LeadsOn (slice_index turn i) (slice_index turn ((i + 1) % length turn))
     pub uncounted : (All (λ a. assigns_counter a ≡ false) turn) ⊎ (Any (λ a. MayRaise a) turn)
 
   -- ---- Most

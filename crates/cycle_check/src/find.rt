@@ -25,7 +25,7 @@ use vip_byte::MOST_TEXT;
 /// `check_cycles` accepts, written with single blanks, upper-case digits and no leading zeros, and has a remark for each exit behind its lines.
 /// Each exit is by SEP of another register, or leads out of the ROM.
 ///
-/// From the entry on the ways are followed that the facts of the lines let through, and a line says a fact and an X that all ways there show. A
+/// From the entry on the ways are followed that what is known of D opens, and a line says a fact and an X that all ways there show. A
 /// loop has the least STEP that pays its turns, and each line the least BASE. Where an address is met whose opcode no line allows, where a
 /// loop isn't counted, or where a BASE passes 1,000,000, the answer is that; so it is where one fact a line doesn't suffice, and the lines are no
 /// certificate; or memory was wanting. For which routines one is found is not promised.

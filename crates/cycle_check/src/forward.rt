@@ -10,7 +10,9 @@ ghost use Rattle.cycle_check.specs.Found.{IsOfWays, IsTimingFault};
 ghost use Rattle.cycle_check.specs.Forward.{IsKnown, IsTrueOf, StaysTrue};
 ghost use Rattle.cycle_check.specs.Obstacles.{IsLed, IsLost, IsOneOf, MayBeAllowed};
 
-use crate::closed::{Instruction, instruction_at, is_allowed, is_shown, lets_through, ways_from};
+use crate::closed::{
+    Instruction, instruction_at, is_allowed, is_open, is_shown, lets_through, ways_from,
+};
 use crate::fault::{TimingCause, TimingFault, obstacle};
 use crate::grammar::{Bound, Fact, Line};
 use crate::known::Knowledge;
@@ -29,7 +31,7 @@ const MOST_TURNS: usize = 10_240;
 const MOST_PASSES: usize = 6_144;
 
 /// How many instructions are looked at for a use of D.
-const MOST_LOOKED: usize = 8;
+const MOST_LOOKED: usize = 64;
 
 /// The facts that the line of an address may not say, since a line that leads there doesn't show them.
 #[derive(Clone, Copy)]
@@ -117,8 +119,8 @@ impl Forward<'_> {
         ensures stays { OnOk result (StaysTrue self.old self.new) }
         ensures fault { IfErr result (IsTimingFault self.old.rom.now self.old.bound) }
     {
+        self.pass(alloc)?;
         for _ in 0..MOST_PASSES {
-            self.pass(alloc)?;
             if !self.bar_all() {
                 break;
             }
@@ -144,8 +146,8 @@ impl Forward<'_> {
         Ok(())
     }
 
-    // What is known at an address that was met.
-    fn known_at(&self, address: u32) -> Option<Knowledge>
+    /// What is known at an address that was met.
+    pub fn known_at(&self, address: u32) -> Option<Knowledge>
         requires { IsTrueOf self.now }
         ensures { IfSome result (IsKnown self.now.rom.now self.now.bound address) }
     {
@@ -183,25 +185,26 @@ impl Forward<'_> {
             return Err(obstacle(self.rom, TimingCause::Opcode, address));
         }
         let ways = ways_from(&self.bound, address, &instruction);
-        self.go(known, &line, &instruction, ways.first);
+        self.go(address, known, &instruction, ways.first);
         if let Some(second) = ways.second {
-            self.go(known, &line, &instruction, second);
+            self.go(address, known, &instruction, second);
         }
         Ok(())
     }
 
-    // Goes a way to an address of the ROM, where the fact of the line lets it through.
-    fn go(&mut self, known: &Knowledge, line: &Line, instruction: &Instruction, way: Way)
+    // Goes a way from an address to one of the ROM, where what is known of D opens it.
+    fn go(&mut self, address: u16, known: &Knowledge, instruction: &Instruction, way: Way)
         requires true_of { IsTrueOf self.now }
-        requires known { IsKnown self.now.rom.now self.now.bound line.now.address known.now }
-        requires allowed { MayBeAllowed self.now.rom.now self.now.bound line.now.address }
-        requires instruction { instruction.now ≡ instruction_at self.now.rom.now line.now.address }
-        requires way { IsOneOf self.now.rom.now self.now.bound line.now.address way }
+        requires known { IsKnown self.now.rom.now self.now.bound address known.now }
+        requires allowed { MayBeAllowed self.now.rom.now self.now.bound address }
+        requires instruction { instruction.now ≡ instruction_at self.now.rom.now address }
+        requires way { IsOneOf self.now.rom.now self.now.bound address way }
         ensures { StaysTrue self.old self.new }
     {
-        if let Some(to) = way.to
-            && lets_through(line.fact, way.when)
-        {
+        let Some(to) = way.to else {
+            return;
+        };
+        if is_open(way.when, known.byte) && place_of(to).is_some() {
             let behind = known.behind(self.bound.k, instruction, way.when);
             self.meet(to, behind);
         }

@@ -1,21 +1,21 @@
 //! Turns that aren't counted.
 
-ghost use Rattle.std.specs.Prelude.{◌≡◌, ℕ, ◌+◌, ◌<◌, ◌%◌, true, false, length, slice_index, Some};
+ghost use Rattle.std.specs.Prelude.{◌≡◌, ℕ, ◌+◌, ◌<◌, ◌≤◌, ◌%◌, true, false, length, slice_index, Some};
 ghost use Rattle.std.specs.List.{All, Any};
 ghost use Rattle.cycle_check.specs.Forward.{IsTrueOf};
 ghost use Rattle.cycle_check.specs.Obstacles.{IsUncounted, LeadsOn, MayRaise, assigns_counter, assigns_low, takes_one};
 
-use crate::closed::{instruction_at, ways_from};
+use crate::closed::{instruction_at, is_open, ways_from};
 use crate::forward::Forward;
 use crate::table::Way;
 use vip_isa::Kind;
 
-/// Whether a way leads to an address.
+/// Whether a way leads to an address of the ROM.
 fn goes_to(way: Way, to: u16) -> bool
-    ensures { result ≡ true → way.to ≡ Some to }
+    ensures { result ≡ true → (way.to ≡ Some to) × (0x8000 ≤ to) × (to < 0x8800) }
 {
     match way.to {
-        Some(address) => address == u32::from(to),
+        Some(address) => address == u32::from(to) && (0x8000..0x8800).contains(&to),
         None => false,
     }
 }
@@ -35,22 +35,27 @@ pub fn takes_one(kind: Kind) -> bool
 }
 
 impl Forward<'_> {
-    // Whether one address leads to another one.
+    // Whether an open way leads from one address to another one.
     fn leads_on(&self, address: u16, to: u16) -> bool
+        requires { IsTrueOf self.now }
         ensures { result ≡ true → LeadsOn self.now.rom.now self.now.bound address to }
     {
+        let Some(known) = self.known_at(u32::from(address)) else {
+            return false;
+        };
         let ways = ways_from(&self.bound, address, &instruction_at(self.rom, address));
-        if goes_to(ways.first, to) {
+        if is_open(ways.first.when, known.byte) && goes_to(ways.first, to) {
             return true;
         }
         match ways.second {
-            Some(second) => goes_to(second, to),
+            Some(second) => is_open(second.when, known.byte) && goes_to(second, to),
             None => false,
         }
     }
 
     // Whether each address of a turn leads to the next one, and the last to the first.
     fn goes_round(&self, turn: &[u16]) -> bool
+        requires { IsTrueOf self.now }
         ensures { result ≡ true → (i : ℕ) → i < length turn.now
             → LeadsOn self.now.rom.now self.now.bound (slice_index turn.now i) (slice_index turn.now ((i + 1) % length turn.now)) }
     {

@@ -1,5 +1,4 @@
-use Rattle.std.proofs.Common.{◌≡◌, inl, inr, refl, sym, ap, ◌∙◌}
-use Rattle.cycle_check.specs.Closed.{instruction_at}
+use Rattle.std.proofs.Common.{inl, inr, refl, sym, ap, ◌∙◌}
 use Rattle.cycle_check.proofs.Leading.{keeps_on, refused}
 use Rattle.cycle_check.proofs.forward.Forward.follow_with.Goals as goal
 
@@ -14,47 +13,35 @@ returns-then-not-is_allowed-clause-fault c =
 
 -- ---- the first way
 
-pub go-requires-clause-known : goal.go-requires-clause-known
-go-requires-clause-known c = rw c.line_with-line.ensures.address c.requires.known
-
 pub go-requires-clause-allowed : goal.go-requires-clause-allowed
-go-requires-clause-allowed c =
-    let here : c.instruction_at-instruction.result ≡ instruction_at c.args.self.now.rom.now c.line_with-line.result.address =
-    rw c.line_with-line.ensures.address c.instruction_at-instruction.ensures in
-    record {
-      line = c.line_with-line.result;
-      of = refl;
-      allowed = rw (← here) (sym c.is_allowed.ensures ∙ c.if-not-is_allowed.false);
-    }
-
-pub go-requires-clause-instruction : goal.go-requires-clause-instruction
-go-requires-clause-instruction c = rw c.line_with-line.ensures.address c.instruction_at-instruction.ensures
+go-requires-clause-allowed c = record {
+  line = c.line_with-line.result;
+  of = c.line_with-line.ensures.address;
+  allowed = rw (← c.instruction_at-instruction.ensures) (sym c.is_allowed.ensures ∙ c.if-not-is_allowed.false);
+}
 
 pub go-requires-clause-way : goal.go-requires-clause-way
-go-requires-clause-way c =
-    inl (rw (c.line_with-line.ensures.address, ← c.instruction_at-instruction.ensures) (ap (λ ways. ways.first) c.ways_from-ways.ensures))
+go-requires-clause-way c = inl (rw (← c.instruction_at-instruction.ensures) (ap (λ ways. ways.first) c.ways_from-ways.ensures))
 
 -- ---- the second one
 
 pub go-requires-in-Some-clause-known : goal.go-requires-in-Some-clause-known
-go-requires-in-Some-clause-known c = rw (c.go.ensures.rom, c.go.ensures.bound, c.line_with-line.ensures.address) c.requires.known
+go-requires-in-Some-clause-known c = rw (c.go.ensures.rom, c.go.ensures.bound) c.requires.known
 
 pub go-requires-in-Some-clause-allowed : goal.go-requires-in-Some-clause-allowed
 go-requires-in-Some-clause-allowed c =
-    let here : c.instruction_at-instruction.result ≡ instruction_at c.args.self.now.rom.now c.line_with-line.result.address =
-    rw c.line_with-line.ensures.address c.instruction_at-instruction.ensures in
-    record {
+    rw (c.go.ensures.rom, c.go.ensures.bound) (record {
       line = c.line_with-line.result;
-      of = refl;
-      allowed = rw (c.go.ensures.rom, c.go.ensures.bound, ← here) (sym c.is_allowed.ensures ∙ c.if-not-is_allowed.false);
-    }
+      of = c.line_with-line.ensures.address;
+      allowed = rw (← c.instruction_at-instruction.ensures) (sym c.is_allowed.ensures ∙ c.if-not-is_allowed.false);
+    })
 
 pub go-requires-in-Some-clause-instruction : goal.go-requires-in-Some-clause-instruction
-go-requires-in-Some-clause-instruction c = rw (c.go.ensures.rom, c.line_with-line.ensures.address) c.instruction_at-instruction.ensures
+go-requires-in-Some-clause-instruction c = rw c.go.ensures.rom c.instruction_at-instruction.ensures
 
 pub go-requires-in-Some-clause-way : goal.go-requires-in-Some-clause-way
 go-requires-in-Some-clause-way c =
-    inr (rw (c.go.ensures.rom, c.go.ensures.bound, c.line_with-line.ensures.address, ← c.instruction_at-instruction.ensures)
+    inr (rw (c.go.ensures.rom, c.go.ensures.bound, ← c.instruction_at-instruction.ensures)
     (ap (λ ways. ways.second) (sym c.ways_from-ways.ensures) ∙ c.in-Some.is))
 
 pub go-requires-in-Some-clause-true_of : goal.go-requires-in-Some-clause-true_of
