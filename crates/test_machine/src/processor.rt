@@ -1,7 +1,7 @@
 //! Runs the CDP1802 of `vip_cpu` through single instructions, interrupts and DMA cycles whose outcome was measured elsewhere.
 //!
 //! The vectors in `data/processor.txt` were measured on MAME 0.251, driver vip, core cdp1802; the head of that file says what its
-//! fields are. There are vectors of all opcodes but 68, and of interrupts, DMA cycles and idling. For each of them a processor is brought
+//! fields are, and which weren't measured. There are vectors of all opcodes, and of interrupts, DMA cycles and idling. For each of them a processor is brought
 //! into the state before, over a plain memory, and makes one instruction, and then the moves that the signals of the vector want. Its
 //! registers, its calls on the bus and its machine cycles must be those of the vector. The vectors that were measured with the display
 //! on run on a whole board of `vip_board` too, whose video chip gives the signals. Then come the rows of a memory, the small ROMs of
@@ -16,6 +16,7 @@ mod preamble;
 mod schedules;
 mod setup;
 mod small_rom;
+mod steps;
 mod test_bus;
 mod vector;
 
@@ -24,6 +25,7 @@ use crate::processor::preamble::Preamble;
 use crate::processor::test_bus::TestBus;
 use crate::processor::vector::{State, Vector};
 use std::alloc::Global;
+pub use steps::write_steps;
 use vip_cpu::{Cpu, Did};
 
 /// Runs a processor up to its next boundary. Answers the machine cycles, or 0 where they are more than 3.
@@ -94,6 +96,8 @@ fn passes(vector: &Vector, bus: &mut TestBus) -> bool {
 struct Tried<'a> {
     alone: Counts<'a>,
     on_board: Counts<'a>,
+    /// How many of these no board can be brought to.
+    passed_over: u32,
 }
 
 impl<'a> Tried<'a> {
@@ -104,7 +108,10 @@ impl<'a> Tried<'a> {
         };
         self.alone.add(passes(&vector, bus), line);
         if vector.kind.has_display {
-            self.on_board.add(on_board::passes(alloc, &vector), line);
+            match on_board::passes(alloc, &vector) {
+                Some(passes) => self.on_board.add(passes, line),
+                None => self.passed_over = self.passed_over.saturating_add(1),
+            }
         }
     }
 }
@@ -114,6 +121,7 @@ fn try_vectors<'a>(alloc: Global, bus: &mut TestBus, text: &'a str) -> Tried<'a>
     let mut tried = Tried {
         alone: Counts::NONE,
         on_board: Counts::NONE,
+        passed_over: 0,
     };
     for line in text.lines() {
         if !line.starts_with('#') {
@@ -153,5 +161,6 @@ pub fn run(rt: &HostRuntime, vectors: &str, boards: &str) -> anyhow::Result<()> 
     ] {
         counts.write(rt, what)?;
     }
+    println!(rt; "{} vectors passed over on the board", tried.passed_over)?;
     Ok(())
 }

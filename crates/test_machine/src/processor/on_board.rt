@@ -169,17 +169,20 @@ fn follows(board: &mut Board, vector: &Vector, t: u64, end: u64) -> bool
         && is_due(board, vector, end)
 }
 
-/// Whether a board does what a vector says.
-pub fn passes(alloc: Global, vector: &Vector) -> bool {
+/// Whether a board does what a vector says. None where nothing in memory can bring it into the state before: IE is 0, and R(P) leaves no room for a DIS.
+pub fn passes(alloc: Global, vector: &Vector) -> Option<bool> {
     let end = end_of(vector);
     let t = end.saturating_sub(u64::from(vector.cycles));
     let preamble = preamble_of(vector, t);
+    if !preamble.is_in_memory() {
+        return None;
+    }
     let mut setup = setup_before(vector, &preamble, t);
     let ram = setup.ram;
     lay(&mut setup.ram, &preamble);
     let Ok(mut board) = setup.board(alloc) else {
-        return false;
+        return Some(false);
     };
     bring(&mut board, &preamble, &ram);
-    follows(&mut board, vector, t, end)
+    Some(follows(&mut board, vector, t, end))
 }

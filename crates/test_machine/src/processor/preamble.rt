@@ -47,6 +47,11 @@ impl Preamble {
         &self.bytes[..self.length]
     }
 
+    /// They lie in memory: none of them comes before address 0000.
+    pub fn is_in_memory(&self) -> bool {
+        self.length <= usize::from(self.state.counter())
+    }
+
     /// How many instructions they are.
     pub fn count(&self) -> u16
         ensures { result ≤ 15 }

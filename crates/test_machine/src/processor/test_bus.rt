@@ -4,10 +4,43 @@ ghost use Rattle.std.specs.Prelude.{◌≡◌, vec_len};
 
 use crate::processor::vector::{Call, Calls, Vector, word};
 use std::alloc::{AllocError, Global};
+use std::cell::Cell;
 use vip_cpu::Bus;
 
 /// The bytes of an address space.
 const SIZE: usize = 65536;
+
+/// The most bytes that are read in a machine cycle, those of a long branch's address.
+const MOST_READS: usize = 2;
+
+/// Addresses in order.
+#[derive(Clone, Copy)]
+pub struct Reads {
+    addresses: [u16; MOST_READS],
+    count: usize,
+}
+
+impl Reads {
+    const NONE: Reads = Reads {
+        addresses: [0; MOST_READS],
+        count: 0,
+    };
+
+    pub fn as_slice(&self) -> &[u16] {
+        &self.addresses[..self.count.min(MOST_READS)]
+    }
+
+    /// Those and one more, as far as there is room.
+    fn and(&self, address: u16) -> Reads {
+        let mut reads = *self;
+        let count = reads.count;
+        if let Some(place) = reads.addresses.get_mut(count) {
+            *place = address;
+            reads.count = count.saturating_add(1);
+        }
+        reads
+    }
+}
 
 #[derive(Drop)]
 pub struct TestBus {
@@ -19,6 +52,8 @@ pub struct TestBus {
     /// The byte that an INP takes.
     taken: u8,
     calls: Calls,
+    /// What was read since it was asked for last.
+    reads: Cell<Reads>,
     ghost full: { vec_len bytes ≡ 65536 },
 }
 
@@ -33,6 +68,7 @@ impl TestBus {
             flags: [false; 4],
             taken: 0,
             calls: Calls::NONE,
+            reads: Cell::new(Reads::NONE),
         })
     }
 
@@ -72,6 +108,13 @@ impl TestBus {
         self.calls.as_slice()
     }
 
+    /// The addresses that were read since this was asked last.
+    pub fn take_reads(&mut self) -> Reads {
+        let reads = self.reads.get();
+        self.reads.set(Reads::NONE);
+        reads
+    }
+
     fn store(&mut self, address: u16, value: u8)
         ensures { Stores self.old address value self.new }
     {
@@ -108,6 +151,7 @@ impl Bus for TestBus {
     ghost inp_keeps = { keeps-keeps };
 
     fn read(&self, address: u16) -> u8 {
+        self.reads.set(self.reads.get().and(address));
         self.bytes[address as usize]
     }
 

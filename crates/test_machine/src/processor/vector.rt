@@ -200,6 +200,11 @@ impl State {
 }
 
 impl Call {
+    /// Its port's N, or 0, its address and its byte.
+    pub fn parts(&self) -> (u8, u16, u8) {
+        (self.n, self.address, self.byte)
+    }
+
     pub fn write(address: u16, byte: u8) -> Call {
         Call {
             n: 0,
