@@ -1,8 +1,8 @@
 //! Vectors with each access of the bus, for `vectors/to_json`.
 //!
-//! Of each vector a line `step` is written; then for each machine cycle a line `cycle` and one for each access in it: its kind, its address or port and its
-//! byte, F a fetch, R a read, W a write, D a DMA cycle, O an output and I an input; and then a line for each register that the vector has changed, by the names of
-//! the seventh field. All numbers are decimal. What field 7 and those behind it say is looked at only for the moves that the signals make.
+//! Of each vector a line `step` is written; then for each machine cycle a line `cycle` and one for each access in it: its kind, its address or port and
+//! its byte, F a fetch, R a read, W a write, D a DMA cycle, O an output and I an input; and then a line for each register that the vector has changed, by the
+//! names of the seventh field. All numbers are decimal. What field 7 and those behind it say is looked at only for the moves that the signals make.
 
 use crate::processor::processor_before;
 use crate::processor::test_bus::TestBus;
