@@ -323,6 +323,30 @@ def refuse_files(browser):
     check("the files of a run aren't shown", browser.ask(SHOWN)["line"] == text[0] and not browser.ask("document.getElementById('fault').textContent"))
 
 
+def refuse_numbers(browser):
+    """A frame that is none is refused in words, and so is a place; a key script alone says what is missing; and a narrow page isn't wider than its window."""
+    browser.open("share/view.html")
+    browser.give(["examples/pen.keys"], "document.getElementById('ending').textContent")
+    said = browser.ask("document.getElementById('ending').textContent")
+    check(f"a key script alone: the page says: {said}", "are still missing" in said and browser.ask("document.getElementById('viewer').hidden"))
+    browser.give(["pen.pbm"], "!document.getElementById('viewer').hidden")
+    check("a film behind a key script isn't shown", browser.ask("document.getElementById('ending').textContent").count("·") == 1)
+    for number, least in (("-5", 0), ("0.5", 0), ("1e9", 0), ("", 0), ("2000000", 0), ("7", 7)):
+        browser.ask(f"document.getElementById('first').value = '{number}', document.getElementById('first').dispatchEvent(new Event('change'))")
+        is_refused, begin = bool(browser.ask("document.getElementById('fault').textContent")), int(browser.ask("document.getElementById('frame').min"))
+        check(f"the first picture of frame '{number}' begins at {begin}", begin == least and is_refused == (number != "7"))
+    browser.call("Emulation.setDeviceMetricsOverride", width=320, height=640, deviceScaleFactor=1, mobile=False)
+    for name in ("share/view.html", "pen.html"):
+        browser.open(name)
+        width = browser.ask("document.documentElement.scrollWidth")
+        check(f"{name} is {width} points wide in a window of 320", width <= 320)
+    browser.call("Emulation.clearDeviceMetricsOverride")
+    browser.open("pen.html", "#pc=hitbat")
+    time.sleep(0.6)
+    said = browser.ask("document.getElementById('said').textContent")
+    check(f"a place that is none: the page says: {said}", "names no place" in said)
+
+
 def open_long(browser):
     """Counts the processor time of the page's thread, so that what else the machine does has no part in it; the clock's is said too."""
     browser.call("Performance.enable", timeDomain="threadTicks")
@@ -347,7 +371,7 @@ def have_names(browser):
 
 
 def main():
-    for looks in ((look_at_game, play_film, look_at_program, look_at_state, refuse_files, have_names), (open_long,)):
+    for looks in ((look_at_game, play_film, look_at_program, look_at_state, refuse_files, refuse_numbers, have_names), (open_long,)):
         browser = Browser(sys.argv[1])
         try:
             for look in looks:
