@@ -27,14 +27,14 @@ use Rattle.game_check.proofs.Steps.{Goes, goes}
 
 -- ---- what a closed claim says
 
-record Parts (e : Edition) (game : List ℕ) (claims : List Claim) (c : Claim) : Type 0 where
+pub record Parts (e : Edition) (game : List ℕ) (claims : List Claim) (c : Claim) : Type 0 where
   pub inside : is_in_memory e c.point.pc 2 ≡ true
   pub allowed : is_allowed (instr_in game c.point.pc) c.point.stack.items ≡ true
   pub access : has_access e claims (instr_in game c.point.pc) c ≡ true
   pub onward : goes_on claims (instr_in game c.point.pc) c ≡ true
 
 module _ (e : Edition) (game : List ℕ) (claims : List Claim) where
-  parts : (c : Claim) → IsClosed e game claims c → Parts e game claims c
+  pub parts : (c : Claim) → IsClosed e game claims c → Parts e game claims c
   unfolding cause_in
   parts c closed = elim (cases_Bool (is_in_memory e c.point.pc 2)) [
     | inr outside ↦ absurd (not_none (rw outside at closed))

@@ -4,4 +4,8 @@ pub mod Ordered
 pub mod Faultless
 pub mod Steps
 pub mod Games
-mod Searched
+pub mod Covering
+pub mod Smallest
+pub mod Accepted
+pub mod Written
+pub mod Deciding

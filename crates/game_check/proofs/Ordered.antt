@@ -24,7 +24,7 @@ use Rattle.game_check.specs.Closed.{allows, has_range, has_start, is_apart, is_c
 use Rattle.game_check.specs.Grammar.{order, cause_after, is_behind}
 use Rattle.game_check.specs.Order.{IsAscending}
 
-order_total : IsTotalOrder order
+pub order_total : IsTotalOrder order
 order_total =
     then_total (on_total (λ p. p.pc) nat_cmp_total)
     (then_total (on_total (λ p. length p.stack.items) nat_cmp_total) (on_total (λ p. p.stack.items) nat_list_cmp_total))
@@ -41,7 +41,7 @@ then_parts Greater b same = absurd (greater_equal same)
     greater_equal : Greater ≡ Equal → ⊥
     greater_equal h = cc
 
-is_eq-true : (o : Ordering) → is_eq o ≡ true → o ≡ Equal
+pub is_eq-true : (o : Ordering) → is_eq o ≡ true → o ≡ Equal
 is_eq-true Less h = cc
 is_eq-true Equal h = refl
 is_eq-true Greater h = cc

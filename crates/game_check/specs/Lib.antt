@@ -1,7 +1,7 @@
 pub mod Grammar
 pub mod Order
 pub mod Closed
-pub mod Obstacles
+pub mod Least
 pub mod Searching
 pub mod Proof
 pub mod States

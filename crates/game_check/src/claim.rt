@@ -1,6 +1,7 @@
 //! Points of control, and what a line of a certificate claims of one.
 
-ghost use Rattle.std.specs.Prelude.{◌≡◌, ◌<◌, ◌≤◌, [], ◌∷◌, ◌++◌, length};
+ghost use Rattle.std.specs.Prelude.{◌≡◌, ◌<◌, ◌≤◌, [], ◌∷◌, ◌++◌, length, max, min, not};
+ghost use Rattle.game_check.specs.Closed.{has_range};
 ghost use Rattle.game_check.specs.Grammar.{order};
 
 use arrayvec::ArrayVec;
@@ -24,12 +25,13 @@ impl Point {
     }
 }
 
-/// That at a point of control the index I lies from one address to another, both of which it may be.
+/// That at a point of control the index I lies from one address to another, both of which it may be. A line of a certificate has a greatest I of at most
+/// FFFF; 10000 stands for all that is above.
 #[derive(Drop)]
 pub struct Claim {
     pub point: Point,
     pub low: u16,
-    pub high: u16,
+    pub high: u32,
 }
 
 impl Claim {
@@ -45,6 +47,21 @@ impl Claim {
             low: self.low,
             high: self.high,
         }
+    }
+
+    // The range grows to hold another. Whether it did.
+    pub(crate) fn widen(&mut self, low: u16, high: u32) -> bool
+        ensures point { self.new.point ≡ self.old.point }
+        ensures low { self.new.low ≡ min self.old.low low }
+        ensures high { self.new.high ≡ max self.old.high high }
+        ensures grew { result ≡ not (has_range low high self.old) }
+    {
+        if self.low <= low && high <= self.high {
+            return false;
+        }
+        self.low = self.low.min(low);
+        self.high = self.high.max(high);
+        true
     }
 }
 

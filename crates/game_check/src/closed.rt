@@ -14,18 +14,18 @@ use crate::fault::ProofCause;
 use chip8_lang::{Edition, Instr, MEMORY_START, read_instr};
 
 /// The font, from its first address up to that behind its last.
-const FONT_START: u32 = 0x8700;
+const FONT_START: u64 = 0x8700;
 
-const FONT_END: u32 = 0x8750;
+const FONT_END: u64 = 0x8750;
 
 /// Where the font has its last digit.
-const LAST_DIGIT: u32 = FONT_START + 5 * 15;
+const LAST_DIGIT: u64 = FONT_START + 5 * 15;
 
 /// The most addresses on the stack.
 const MOST_STACK: usize = 12;
 
 /// The greatest address.
-const LAST_ADDRESS: u32 = 0xFFFF;
+pub const LAST_ADDRESS: u64 = 0xFFFF;
 
 /// Ok where a claim is closed among others, of which it may be one, and else the first cause why it is not.
 #[tactic(auto, unfolding(crate::specs::Closed::cause_in))]
@@ -38,7 +38,7 @@ pub fn check_claim(
     requires { IsAscending claims.now }
     ensures { result_err result ≡ closed.cause_in edition game.now claims.now claim.now }
 {
-    if !is_in_memory(edition, u32::from(claim.point.pc), 2) {
+    if !is_in_memory(edition, u64::from(claim.point.pc), 2) {
         return Err(ProofCause::Outside);
     }
     let instr = instr_in(game, claim.point.pc);
@@ -108,39 +108,39 @@ pub fn has_access(edition: Edition, claims: &[Claim], instr: &Instr, claim: &Cla
     requires { IsAscending claims.now }
     ensures { result ≡ closed.has_access edition claims.now instr.now claim.now }
 {
-    let low = u32::from(claim.low);
+    let low = u64::from(claim.low);
     match instr {
         Instr::Draw(_, _, rows) => *rows == 0
-            || is_readable(edition, low, span(claim, u32::from(*rows))),
-        Instr::Fetch(x) => is_readable(edition, low, span(claim, u32::from(*x) + 1)),
+            || is_readable(edition, low, span(claim, u64::from(*rows))),
+        Instr::Fetch(x) => is_readable(edition, low, span(claim, u64::from(*x) + 1)),
         Instr::Decimal(_) => is_writable(edition, claims, low, span(claim, 3)),
-        Instr::Store(x) => is_writable(edition, claims, low, span(claim, u32::from(*x) + 1)),
+        Instr::Store(x) => is_writable(edition, claims, low, span(claim, u64::from(*x) + 1)),
         _ => true,
     }
 }
 
 // How many bytes are met from the least I on where so many from I on are meant.
-fn span(claim: &Claim, count: u32) -> u32
+fn span(claim: &Claim, count: u64) -> u64
     requires { count ≤ 256 }
     ensures value { result ≡ closed.span claim.now count }
-    ensures bound { result ≤ 65_791 }
+    ensures bound { result ≤ 4_294_967_551 }
 {
-    u32::from(claim.high.saturating_sub(claim.low)) + count
+    u64::from(claim.high).saturating_sub(u64::from(claim.low)) + count
 }
 
 // Whether so many bytes lie in game memory or in the font.
-fn is_readable(edition: Edition, start: u32, count: u32) -> bool
+fn is_readable(edition: Edition, start: u64, count: u64) -> bool
     requires start { start ≤ 65_535 }
-    requires count { count ≤ 65_791 }
+    requires count { count ≤ 4_294_967_551 }
     ensures { result ≡ is_readable edition start count }
 {
     is_in_memory(edition, start, count) || (FONT_START <= start && start + count <= FONT_END)
 }
 
 // Whether they lie in game memory, and none of them is in the code.
-fn is_writable(edition: Edition, claims: &[Claim], start: u32, count: u32) -> bool
+fn is_writable(edition: Edition, claims: &[Claim], start: u64, count: u64) -> bool
     requires start { start ≤ 65_535 }
-    requires count { count ≤ 65_791 }
+    requires count { count ≤ 4_294_967_551 }
     requires ascending { IsAscending claims.now }
     ensures { result ≡ closed.is_writable edition claims.now start count }
 {
@@ -148,25 +148,25 @@ fn is_writable(edition: Edition, claims: &[Claim], start: u32, count: u32) -> bo
 }
 
 /// Whether so many bytes lie in game memory.
-pub fn is_in_memory(edition: Edition, start: u32, count: u32) -> bool
+pub fn is_in_memory(edition: Edition, start: u64, count: u64) -> bool
     requires start { start ≤ 65_535 }
-    requires count { count ≤ 65_791 }
+    requires count { count ≤ 4_294_967_551 }
     ensures { result ≡ is_in_memory edition start count }
 {
-    u32::from(MEMORY_START) <= start && start + count <= u32::from(edition.memory_end())
+    u64::from(MEMORY_START) <= start && start + count <= u64::from(edition.memory_end())
 }
 
 // Whether none of so many bytes is in the code. The claims come in the order of their pc: so the first one whose opcode doesn't lie before the bytes
 // tells it.
-fn are_apart(claims: &[Claim], start: u32, count: u32) -> bool
+fn are_apart(claims: &[Claim], start: u64, count: u64) -> bool
     requires start { start ≤ 65_535 }
-    requires count { count ≤ 65_791 }
+    requires count { count ≤ 4_294_967_551 }
     requires ascending { IsAscending claims.now }
     ensures { result ≡ list_all (closed.is_apart start count) claims.now }
 {
-    let place = claims.partition_point(|claim| u32::from(claim.point.pc) + 1 < start);
+    let place = claims.partition_point(|claim| u64::from(claim.point.pc) + 1 < start);
     match claims.get(place) {
-        Some(claim) => start + count <= u32::from(claim.point.pc),
+        Some(claim) => start + count <= u64::from(claim.point.pc),
         None => true,
     }
 }
@@ -188,29 +188,29 @@ fn goes_on(claims: &[Claim], instr: &Instr, claim: &Claim) -> bool
     }
 }
 
-// The least I afterwards.
-pub fn low_after(instr: &Instr, claim: &Claim) -> u32
+/// The least I afterwards.
+pub fn low_after(instr: &Instr, claim: &Claim) -> u64
     ensures { result ≡ closed.low_after instr.now claim.now }
 {
-    let low = u32::from(claim.low);
+    let low = u64::from(claim.low);
     match instr {
-        Instr::Index(address) => u32::from(*address),
+        Instr::Index(address) => u64::from(*address),
         Instr::Font(_) => FONT_START,
-        Instr::Store(x) | Instr::Fetch(x) => low + u32::from(*x) + 1,
+        Instr::Store(x) | Instr::Fetch(x) => low + u64::from(*x) + 1,
         _ => low,
     }
 }
 
-// The greatest.
-pub fn high_after(instr: &Instr, claim: &Claim) -> u32
+/// The greatest.
+pub fn high_after(instr: &Instr, claim: &Claim) -> u64
     ensures { result ≡ closed.high_after instr.now claim.now }
 {
-    let high = u32::from(claim.high);
+    let high = u64::from(claim.high);
     match instr {
-        Instr::Index(address) => u32::from(*address),
+        Instr::Index(address) => u64::from(*address),
         Instr::Font(_) => LAST_DIGIT,
         Instr::AddIndex(_) => high + 255,
-        Instr::Store(x) | Instr::Fetch(x) => high + u32::from(*x) + 1,
+        Instr::Store(x) | Instr::Fetch(x) => high + u64::from(*x) + 1,
         _ => high,
     }
 }
@@ -270,7 +270,7 @@ fn return_point(stack: &[u16]) -> Point
 }
 
 /// Whether some claim is of the point and allows all I from low to high. At most one is of it.
-pub fn is_claimed(claims: &[Claim], low: u32, high: u32, point: &Point) -> bool
+pub fn is_claimed(claims: &[Claim], low: u64, high: u64, point: &Point) -> bool
     requires { IsAscending claims.now }
     ensures { result ≡ closed.is_claimed claims.now low high point.now }
 {
@@ -284,8 +284,8 @@ pub fn is_claimed(claims: &[Claim], low: u32, high: u32, point: &Point) -> bool
 }
 
 // Whether a claim lets I lie from low to high.
-fn has_range(low: u32, high: u32, claim: &Claim) -> bool
+fn has_range(low: u64, high: u64, claim: &Claim) -> bool
     ensures { result ≡ closed.has_range low high claim.now }
 {
-    u32::from(claim.low) <= low && high <= u32::from(claim.high)
+    u64::from(claim.low) <= low && high <= u64::from(claim.high)
 }

@@ -3,7 +3,7 @@
 ghost use Rattle.std.specs.Prelude.{◌≡◌, ◌≤◌, length};
 ghost use Rattle.game_check.specs.FaultNames.{proof_cause_name};
 
-use crate::claim::Claim;
+use crate::claim::Point;
 use std::alloc::AllocError;
 use thiserror::Error;
 
@@ -68,19 +68,30 @@ impl From<AllocError> for ProofFault {
     }
 }
 
-/// Where the search for a certificate ended without one: the claim that could not be closed, for which cause, and the opcode there, which is
-/// none where it does not lie in game memory.
+/// The first claim of a game's least closed family that has a cause against it, with FFFF for all that is above; the first such cause; and the opcode there,
+/// which is none where it does not lie in game memory.
 #[derive(Drop)]
-pub struct Obstacle {
+pub struct OpenClaim {
     pub cause: ProofCause,
     pub opcode: Option<u16>,
-    pub claim: Claim,
+    pub point: Point,
+    pub low: u16,
+    pub high: u16,
+}
+
+/// Why a game has no certificate.
+#[derive(Drop)]
+pub enum Obstacle {
+    /// Each would have more than 1,048,576 bytes.
+    TooLong,
+    /// This claim can't be closed.
+    Open(OpenClaim),
 }
 
 /// Why no certificate was found.
 #[derive(Drop)]
 pub enum FindFault {
-    /// The search ended at this place.
+    /// There is none.
     NotFound(Obstacle),
     /// No memory was left.
     NoMemory,

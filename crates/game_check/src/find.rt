@@ -1,96 +1,129 @@
-//! A certificate that is found for a game.
+//! The least certificate of a game, or why it has none.
 
-ghost use Rattle.std.specs.Prelude.{◌≤◌, length, IfOk, IfErr};
+ghost use Rattle.std.specs.Prelude.{[], ◌∷◌, ◌≡◌, ◌+◌, ◌*◌, ◌≤◌, ◌++◌, length, IfOk, IfErr, OnOk, MatchOption, None};
 ghost use Rattle.std.specs.List.{All};
 ghost use Rattle.chip8_lang.specs.State.{memory_size};
-ghost use Rattle.game_check.specs.Obstacles.{IsFindFault, MayBeMet};
-ghost use Rattle.game_check.specs.Order.{IsAscending};
-ghost use Rattle.game_check.specs.Proof.{IsAccepted};
+ghost use Rattle.arrayvec.specs.ArrayVec.{array_vec_len};
+ghost use Rattle.vip_byte.specs.HexText.{hex4, words_text};
+ghost use Rattle.vip_byte.specs.Room.{HasRoom};
+ghost use Rattle.game_check.specs.Closed.{cause_in};
+ghost use Rattle.game_check.specs.Least.{family_text, line_text, opcode_at, HasNone, IsFound, IsOpen, IsTold, IsWhy};
+ghost use Rattle.game_check.specs.Searching.{AreWords, IsSettled, IsWord, IsWritable};
 
-use crate::check::check_game;
 use crate::claim::Claim;
-use crate::closed::check_claim;
-use crate::fault::{FindFault, ProofFault};
-use crate::obstacle::fault_at;
-use crate::search::search_claims;
-use arrayvec::ArrayVec;
+use crate::closed::{LAST_ADDRESS, check_claim, is_in_memory, opcode_in};
+use crate::fault::{FindFault, Obstacle, OpenClaim, ProofCause};
+use crate::least::least_family;
 use chip8_lang::Edition;
 use std::alloc::{AllocError, Global};
-use vip_byte::{MOST_TEXT, hex4};
+use vip_byte::{Buffer, hex4, put};
 
-/// The most bytes of a line: fifteen words of four digits, each with a blank or the newline behind it.
-const MOST_LINE: usize = 75;
-
-/// Finds a certificate that `check_game` accepts, in the order and with the spelling of its format: upper-case digits, one blank between two
-/// words, no remarks, at most 1,048,576 bytes.
+/// Finds the least certificate of a game, in the order and with the spelling of its format: upper-case digits, one blank between two words, no remarks.
 ///
-/// From the start on, the points that a game may come to are followed, at most 65,536 of them, and the ranges of I that meet at one are joined. A range
-/// that grows again and again grows to the bounds of game memory or of the font, whichever holds it, and then to all addresses. Where some claim can't be
-/// closed so, the answer is that claim and the cause; or memory was wanting. For which games one is found is not promised.
+/// It has the claims of the least closed family: that of the start, and what each claim leaves at its next points, with one range for a point. Each other
+/// certificate has a line of the same point around each of its lines. So where a claim of it has a cause against it, or its lines have more than 1,048,576
+/// bytes, there is none; or memory was wanting. The time is that of the family's lines times the ways between them at most.
 pub fn find_certificate(alloc: Global, edition: Edition, game: &[u8]) -> Result<Vec<u8>, FindFault>
     requires { length game.now ≤ memory_size edition }
-    ensures accepted { IfOk result (λ text. IsAccepted edition game.now text.items) }
-    ensures fits { IfOk result (λ text. length text.items ≤ MOST_TEXT) }
-    ensures fault { IfErr result (IsFindFault edition game.now) }
+    ensures found { IfOk result (λ text. IsFound edition game.now text.items) }
+    ensures why { IfErr result (IsWhy edition game.now) }
 {
-    let claims = search_claims(alloc, edition, game)?;
-    let (text, count) = text_of(alloc, claims.as_slice())?;
-    match check_game(alloc, edition, game, text.as_slice()) {
-        Ok(_) => Ok(text),
-        Err(ProofFault::Fault { .. }) => Err(first_open(edition, game, claims.as_slice(), count)),
-        Err(ProofFault::NoMemory) => Err(FindFault::NoMemory),
+    let Some(family) = least_family(alloc, edition, game)? else {
+        return Err(FindFault::NotFound(Obstacle::TooLong));
+    };
+    if let Some(open) = first_open(edition, game, family.as_slice()) {
+        return Err(FindFault::NotFound(Obstacle::Open(open)));
     }
+    let text = text_of(alloc, family.as_slice())?;
+    Ok(text)
 }
 
-// What stands against the first of some claims that isn't closed among them; they are the first ones of those found. It is asked where their lines were
-// refused. That one of them isn't closed then follows from no clause, so that where each of them is, the answer is want of memory.
-fn first_open(edition: Edition, game: &[u8], found: &[Claim], count: usize) -> FindFault
-    requires in_order { IsAscending found.now }
-    requires met { All (MayBeMet edition game.now) found.now }
-    ensures { IsFindFault edition game.now result }
+// What stands against the first claim of a family that isn't closed among them, if there is one.
+fn first_open(edition: Edition, game: &[u8], family: &[Claim]) -> Option<OpenClaim>
+    requires { IsSettled edition game.now family.now }
+    ensures { MatchOption result (All (λ c. cause_in edition game.now family.now c ≡ None) family.now) (λ o. IsOpen edition game.now o × HasNone edition game.now) }
 {
-    let first = &found[..count.min(found.len())];
-    for claim in first {
-        if check_claim(edition, game, first, claim).is_err() {
-            return fault_at(edition, game, found, count, claim.copy());
+    for claim in family {
+        if let Err(cause) = check_claim(edition, game, family, claim) {
+            return Some(open_claim(edition, game, claim, cause));
         }
     }
-    FindFault::NoMemory
+    None
 }
 
-// The lines of these claims, as many as a certificate may have, and how many these are.
-fn text_of(alloc: Global, claims: &[Claim]) -> Result<(Vec<u8>, usize), AllocError>
-    ensures { IfOk result (λ lines. length lines.0.items ≤ MOST_TEXT) }
+// A claim that isn't closed, as it is told.
+fn open_claim(edition: Edition, game: &[u8], claim: &Claim, cause: ProofCause) -> OpenClaim
+    ensures cause { result.cause ≡ cause }
+    ensures told { IsTold edition game.now claim.now result }
+{
+    let Claim { point, low, high } = claim.copy();
+    OpenClaim {
+        cause,
+        opcode: opcode_at(edition, game, point.pc),
+        point,
+        low,
+        high: high.min(LAST_ADDRESS as u32) as u16,
+    }
+}
+
+// The opcode at an address of game memory.
+fn opcode_at(edition: Edition, game: &[u8], pc: u16) -> Option<u16>
+    ensures { result ≡ opcode_at edition game.now pc }
+{
+    if is_in_memory(edition, u64::from(pc), 2) {
+        Some(opcode_in(game, pc))
+    } else {
+        None
+    }
+}
+
+// The lines of these claims.
+fn text_of(alloc: Global, claims: &[Claim]) -> Result<Vec<u8>, AllocError>
+    requires { All IsWritable claims.now }
+    ensures text { IfOk result (λ text. text.items ≡ family_text claims.now) }
+    ensures words { OnOk result (All AreWords claims.now) }
 {
     let mut text = Vec::new(alloc);
-    let mut count = 0;
     for claim in claims {
-        let line = line_of(claim);
-        if MOST_TEXT - text.len() < line.len() {
-            break;
-        }
+        let mut line = Buffer::new();
+        put_line(claim, &mut line);
         text.extend_from_slice(line.as_slice())?;
-        count += 1;
     }
-    Ok((text, count))
+    Ok(text)
 }
 
-// The line that says a claim.
-fn line_of(claim: &Claim) -> ArrayVec<u8, MOST_LINE> {
-    let mut line = ArrayVec::new();
-    put_word(&mut line, claim.point.pc);
-    put_word(&mut line, claim.low);
-    put_word(&mut line, claim.high);
-    for address in claim.point.stack.as_slice() {
-        put_word(&mut line, *address);
-    }
-    let _ = line.pop();
-    let _ = line.try_push(b'\n');
-    line
+// Writes the line that says a claim into an empty buffer.
+fn put_line(claim: &Claim, into: &mut Buffer)
+    requires empty { into.old.items ≡ [] }
+    requires writable { IsWritable claim.now }
+    ensures text { into.new.items ≡ line_text claim.now }
+    ensures words { AreWords claim.now }
+{
+    put(into, &hex4(claim.point.pc));
+    put_word(into, claim.low);
+    put_word(into, claim.high as u16);
+    put_stack(into, claim.point.stack.as_slice());
+    put(into, b"\n");
 }
 
-// Four digits and a blank.
-fn put_word(line: &mut ArrayVec<u8, MOST_LINE>, word: u16) {
-    let _ = line.try_extend_from_slice(&hex4(word));
-    let _ = line.try_push(b' ');
+// Appends the addresses of a stack.
+fn put_stack(into: &mut Buffer, addresses: &[u16])
+    requires { HasRoom into.old.items (5 * length addresses.now) }
+    ensures items { into.new.items ≡ into.old.items ++ words_text addresses.now }
+    ensures len { array_vec_len into.new ≡ array_vec_len into.old + 5 * length addresses.now }
+    ensures words { All IsWord addresses.now }
+{
+    for address in addresses {
+        put_word(into, *address);
+    }
+}
+
+// Appends a blank and four digits.
+fn put_word(into: &mut Buffer, word: u16)
+    requires { HasRoom into.old.items 5 }
+    ensures items { into.new.items ≡ into.old.items ++ 32 ∷ hex4 word }
+    ensures len { array_vec_len into.new ≡ array_vec_len into.old + 5 }
+{
+    put(into, b" ");
+    put(into, &hex4(word));
 }

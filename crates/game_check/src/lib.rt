@@ -4,8 +4,8 @@
 //! The crate stands on the definitions of `machine` and `chip8_lang`, and on the lines, words and numbers of `vip_byte` and `vip_keypad`. The
 //! layers above may rely on this: `check_game` answers the number of claims exactly where the certificate is well formed and closed and has a claim of
 //! the start, and else its first fault (`specs/Proof.antt`); of such a certificate the step law holds, and its game never stops (`specs/Laws.antt`);
-//! what `find_certificate` finds, `check_game` accepts; where it finds none, it says a claim that its search meets, and what stands against it
-//! (`specs/Obstacles.antt`). Of which games it finds one nothing is promised. The format is this project's profile.
+//! `find_certificate` decides: it finds the least certificate that `check_game` accepts exactly where there is one of at most 1,048,576 bytes, memory
+//! aside, and else says why there is none (`specs/Least.antt`). The format is this project's profile.
 #![tactic(auto)]
 
 mod check;
@@ -14,12 +14,11 @@ mod closed;
 mod fault;
 mod find;
 pub mod laws;
+mod least;
 mod line;
-mod obstacle;
 mod read;
-mod search;
 
 pub use check::check_game;
 pub use claim::{Claim, Point};
-pub use fault::{FindFault, Obstacle, ProofCause, ProofFault};
+pub use fault::{FindFault, Obstacle, OpenClaim, ProofCause, ProofFault};
 pub use find::find_certificate;

@@ -78,7 +78,7 @@ fn claim_by(numbers: &[u16]) -> Result<Claim, ProofCause>
                 stack: stack_of(addresses),
             },
             low: *low,
-            high: *high,
+            high: u32::from(*high),
         }),
         _ => Err(ProofCause::BadLine),
     }

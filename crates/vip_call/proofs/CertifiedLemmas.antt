@@ -102,8 +102,8 @@ module _ (routines : AcceptedIsWithin) (games : CertifiedGames) (law : EveryRun)
             record {
               text = found.value;
               written = written output _ found.here;
-              accepted = found.gives.0;
-              safe = is_safe edition comes.value found.value game.fits game.bytes found.gives.0;
+              found = found.gives;
+              safe = is_safe edition comes.value found.value game.fits game.bytes found.gives.accepted;
             };
       }
   shows _ output given comes = tt

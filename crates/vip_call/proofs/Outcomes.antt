@@ -21,9 +21,11 @@ use Rattle.cycle_check.specs.declared.fault.CertFault.{CertFault}
 use Rattle.cycle_check.specs.declared.fault.CertFault.TheVariants as cert
 use Rattle.cycle_check.specs.declared.fault.TimingFault.{TimingFault}
 use Rattle.cycle_check.specs.declared.fault.TimingFault.TheVariants as timing
+use Rattle.game_check.specs.Least.{HasNone, IsWhy}
 use Rattle.game_check.specs.Proof.{proof_of}
 use Rattle.game_check.specs.declared.fault.FindFault.{FindFault}
 use Rattle.game_check.specs.declared.fault.FindFault.TheVariants as find
+use Rattle.game_check.specs.declared.fault.Obstacle.TheVariants as obstacle
 use Rattle.game_check.specs.declared.fault.ProofFault.{ProofFault}
 use Rattle.game_check.specs.declared.fault.ProofFault.TheVariants as proof
 use Rattle.vip_board.specs.Seen.{Seen}
@@ -71,12 +73,12 @@ use Rattle.asm_listing.specs.Listing.{IsListing}
 use Rattle.vip_tools.specs.Status.{end_status}
 use Rattle.vip_tools.specs.declared.refusal.Refusal.{Refusal}
 use Rattle.vip_tools.specs.declared.status.Status.{Status}
-use Rattle.vip_tools.specs.declared.status.Status.TheVariants.{BadSource, Done, NoDispatch}
+use Rattle.vip_tools.specs.declared.status.Status.TheVariants.{BadSource, Done, NoCertificate, NoDispatch}
 use Rattle.vip_tools.proofs.CodeLemmas.{one_game}
 use Rattle.vip_tools.proofs.JudgedLemmas.{Agree, AgreeOn, AllSound, Any, IsFine, Sound, alone_agree, alone_sound, bind_agree, bind_sound, each_agree, each_sound, judged_agree, judged_sound, only_agree, result_agree, same_agree, search_agree}
 use Rattle.vip_verbs.specs.Outcome.{HasOutcome, IsSavedIn, LinkRomsCome, RomComes, RomIs, RunStart, RunTo, ShowComes, StartComes, TextVerbComes, events_in, known_in, linked, linked_after, pieces_of, ran_with, run_ending, saved_pieces, shown_by}
 use Rattle.vip_verbs.specs.Programs.{ProgramComes, ProgramShowComes, memory_in, program_debugged, program_pictured, program_traced}
-use Rattle.vip_call.specs.Top.{IsCheck, IsOfRom, IsSearch}
+use Rattle.vip_call.specs.Top.{Call, DecidesCertify, IsCheck, IsOfRom, IsSearch}
 use Rattle.vip_call.specs.Transcribed.{LacksPoint, SavesNone}
 use Rattle.vip_call.proofs.FilledLemmas.{AreGiven}
 use Rattle.vip_call.proofs.GivenStarts.{from_start, start_fits}
@@ -127,10 +129,6 @@ fine_or_not source rom f fine bad status report tells =
 timing_never : (f : TimingFault) (status : Status) (report : List ℕ) → cause_of (timing_refusal f) ≡ Fault status report → ⊥
 timing_never (timing.NotFound obstacle) status report tells = cc
 timing_never timing.NoMemory status report tells = cc
-
-find_never : (f : FindFault) (status : Status) (report : List ℕ) → cause_of (find_refusal f) ≡ Fault status report → ⊥
-find_never (find.NotFound obstacle) status report tells = cc
-find_never find.NoMemory status report tells = cc
 
 -- ---- one outcome
 
@@ -205,8 +203,24 @@ text_verb_once _ file = ends_once _
 safe_once : (e : Edition) (game text : List ℕ) → OneEnd (SafeComes e game text) (SafeComes e game text)
 safe_once e game text = once_behind (ProofComes e game text) (λ count. Writes (count_line count)) (result_agree (proof_of e game text) proof_refusal) (λ count. ends_once _)
 
+-- a certificate is found, or there is none
+has_none : (e : Edition) (game : List ℕ) (f : FindFault) (status : Status) (report : List ℕ) → IsWhy e game f → cause_of (find_refusal f) ≡ Fault status report → HasNone e game
+has_none e game (find.NotFound (obstacle.Open o)) status report why tells = why.1
+has_none e game (find.NotFound obstacle.TooLong) status report why tells = why.1
+has_none e game find.NoMemory status report why tells = cc
+
+find_status : (f : FindFault) (status : Status) (report : List ℕ) → cause_of (find_refusal f) ≡ Fault status report → status ≡ NoCertificate
+find_status (find.NotFound why) status report tells = cc
+find_status find.NoMemory status report tells = cc
+
+found_or_none : (e : Edition) (game : List ℕ) → AgreeOn Any (ProofFound e game) (ProofFound e game)
+found_or_none e game =
+    judged_agree Any _ _ _ _ find_refusal (λ a b x y. tt) (λ a f s r x bad tells. has_none e game f s r bad tells a x.fits x.accepted)
+    (λ a f s r x bad tells. has_none e game f s r bad tells a x.fits x.accepted)
+    (λ f g s t r q x y z w. find_status f s r z ∙ sym (find_status g t q w))
+
 certify_once : (e : Edition) (game : List ℕ) → OneEnd (CertifyComes e game) (CertifyComes e game)
-certify_once e game = any_behind (ProofFound e game) (ProofFound e game) Writes Writes (search_agree _ _ _ _ find_refusal find_never) writes_once
+certify_once e game = any_behind (ProofFound e game) (ProofFound e game) Writes Writes (found_or_none e game) writes_once
 
 -- a source gives one game, or none
 large_or_not : (e : Edition) (text : List ℕ) (made made' : Made) → IsAssembly Chip8Words (source_lines text) made → IsAssembly Chip8Words (source_lines text) made'
@@ -491,8 +505,8 @@ module _ (given : RomsGiven) where
       free_behind l (GameComes edition code) _ (game_free l edition code)
       (λ game. free_behind l (ProofFound edition game) Writes (part l _ _ find_refusal (λ f x. find_fine f)) (writes_free l))
     where
-      find_fine : (f : FindFault) → IsFine (IsDue (request.Certify code edition)) (Unit {0}) (cause_of (find_refusal f))
-      find_fine (find.NotFound obstacle) = tt
+      find_fine : (f : FindFault) → IsFine (IsDue (request.Certify code edition)) ⊥ (cause_of (find_refusal f))
+      find_fine (find.NotFound why) = (λ x. x, λ is. absurd (cc))
       find_fine find.NoMemory = tt
   free loaded = writes_free loaded _
 
@@ -541,3 +555,19 @@ module _ (given : RomsGiven) where
             }),
       )
       of_save _ given comes is = absurd is
+
+-- ---- what `certify` decides
+
+pub decides_certify : (call : Call) → DecidesCertify call
+decides_certify call asked code e game report asks gives comes = elim comes [
+  | inl refused ↦ absurd (game_once e code (Given game) (Refused NoCertificate report) gives refused)
+  | inr found ↦
+      let same : game ≡ found.value = game_once e code (Given game) (Given found.value) gives found.gives in
+      subst (HasNone e) (sym same) (none_there found.value found.here)
+]
+  where
+    none_there : (a : List ℕ) → CertifyComes e a (Refused NoCertificate report) → HasNone e a
+    none_there a there = elim there [
+      | inl why ↦ has_none e a why.fault NoCertificate report why.is why.tells
+      | inr written ↦ let never = written.here in absurd (cc)
+    ]

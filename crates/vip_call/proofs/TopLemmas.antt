@@ -139,6 +139,10 @@ refuses_words BadState call says none = elim says [
 ]
 refuses_words MessageTooLarge call says none = absurd (nothing_asked call.words says.asked says.words none)
 refuses_words CertificateTooLarge call says none = absurd (nothing_asked call.words says.asked says.words none)
+refuses_words NoCertificate call says none = elim says [
+  | inl nothing ↦ absurd (nothing_asked call.words nothing.asked nothing.asks.words none)
+  | inr gives ↦ absurd (nothing_asked call.words gives.asked gives.asks.words none)
+]
 refuses_words RomTooLarge call says none = absurd (nothing_asked call.words says.asked says.words none)
 refuses_words RamTooLarge call says none = absurd (nothing_asked call.words says.asked says.words none)
 refuses_words _ call says none = absurd (nothing_asked call.words says.asked says.asks.words none)
@@ -313,7 +317,10 @@ module _ (roms : RomsGiven) (call : Call) (asked : Asked) (files : FileMap) (off
   ]
   due_is MessageTooLarge says r read due given = oversize_due r read due given MessageTooLarge says
   due_is CertificateTooLarge says r read due given = oversize_due r read due given CertificateTooLarge says
-  due_is NoCertificate says r read due given = inr (inr (refl, searches says))
+  due_is NoCertificate says r read due given = elim says [
+    | inl nothing ↦ inr (inr (refl, searches nothing))
+    | inr gives ↦ rejects_due r read due given NoCertificate gives
+  ]
   due_is RomTooLarge says r read due given = oversize_due r read due given RomTooLarge says
   due_is RamTooLarge says r read due given = oversize_due r read due given RamTooLarge says
   due_is status says r read due given = rejects_due r read due given status says
@@ -369,7 +376,7 @@ module _ (roms : RomsGiven) (call : Call) (asked : Asked) (files : FileMap) (off
     ]
     ends MessageTooLarge says out err = absurd (not_larger MessageTooLarge says)
     ends CertificateTooLarge says out err = absurd (not_larger CertificateTooLarge says)
-    ends NoCertificate says out err = inr (inr (refl, searches says))
+    ends NoCertificate says out err = elim says [ inl nothing ↦ inr (inr (refl, searches nothing)) | inr gives ↦ absurd (not_rejected NoCertificate gives) ]
     ends RomTooLarge says out err = absurd (not_larger RomTooLarge says)
     ends RamTooLarge says out err = absurd (not_larger RamTooLarge says)
     ends status says out err = absurd (not_rejected status says)
@@ -550,8 +557,8 @@ module _ (words : List (List ℕ)) (files files' : FilesMeaning) (out err err' :
     files = all_read given;
     refused = record { out = refl; err = report };
   }
-  refused_with (refusal.NoCertificate obstacle) given report = nothing-found (no_certificate obstacle) given report
-  refused_with (refusal.NoTiming why) given report = nothing-found (no_timing why) given report
+  refused_with (refusal.NoCertificate obstacle) given report = inr (rejected (refusal.NoCertificate obstacle) given report)
+  refused_with (refusal.NoTiming why) given report = inl (nothing-found (no_timing why) given report)
   refused_with refusal.NoMemory given report = record { files = given; refused = record { out = refl; err = report } }
   refused_with r given report = rejected r given report
 

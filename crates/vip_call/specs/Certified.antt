@@ -7,7 +7,7 @@ use Rattle.chip8_lang.specs.Events.Event.{Picture, Dispatch, Stopped}
 use Rattle.cycle_check.specs.Found.{IsFound}
 use Rattle.cycle_check.specs.Leaving.{IsWithin}
 use Rattle.cycle_check.specs.declared.Within.{Within}
-use Rattle.game_check.specs.Proof.{IsAccepted}
+use Rattle.game_check.specs.Least.{IsFound as IsGameFound}
 use Rattle.game_check.specs.States.{NeverStops}
 use Rattle.chip8_image.specs.Interpreters.{interpreter_of}
 use Rattle.vip_words.specs.declared.request.Request.TheVariants.{Certify, Cycles, Safe, Text}
@@ -48,11 +48,11 @@ pub record IsSafe (e : Edition) (game : List ℕ) : Type 0 where
   pub never : NeverStops e game
   pub runs : (script : List KeyEvent) (limit : ℕ) → NoneStops (events_of (interpreter_of e) game script limit)
 
--- all of the output is a certificate of such a game, which `safe` accepts
+-- all of the output is the least certificate of such a game, which `safe` accepts
 pub record WritesCertificate (e : Edition) (game : List ℕ) (pieces : List (List ℕ)) : Type 0 where
   pub text : List ℕ
   pub written : pieces ≡ text ∷ []
-  pub accepted : IsAccepted e game text
+  pub found : IsGameFound e game text
   pub safe : IsSafe e game
 
 -- what the output of a verb of certificates says: of a game, or of the one that a source gives

@@ -5,6 +5,7 @@ use Rattle.vip_outside.specs.Files.{FileMap, FilesMeaning}
 use Rattle.vip_outside.specs.Sink.{SinkMeaning}
 use Rattle.vip_outside.specs.Pieces.{PutsAll, FailsWithin}
 use Rattle.rom_board.specs.LeastBounds.{LeastBounds}
+use Rattle.chip8_lang.specs.declared.view.Edition.{Edition}
 use Rattle.asm_lex.specs.declared.shape.Isa.{Isa}
 use Rattle.asm_core.specs.Sources.{source_lines}
 use Rattle.asm_core.specs.Told.{IsFirstTold}
@@ -12,6 +13,8 @@ use Rattle.asm_core.specs.declared.findings.Finding.{Finding}
 use Rattle.vip_words.specs.Asked.{asked_by}
 use Rattle.vip_words.specs.Request.{Asked}
 use Rattle.vip_words.specs.Rules.{Word}
+use Rattle.game_check.specs.Least.{HasNone}
+use Rattle.vip_words.specs.declared.request.Code.{Code}
 use Rattle.vip_words.specs.declared.request.Request.{Request}
 use Rattle.vip_words.specs.declared.request.Request.TheVariants.{Certify, Link, Text}
 use Rattle.vip_words.specs.declared.request.TextVerb.TheVariants.{Asm, Check, Timing}
@@ -29,7 +32,8 @@ use Rattle.vip_call.specs.Transcribed.{SavesNone, Transcribes}
 use Rattle.vip_call.specs.Words.{FinishAnswers, OfWords, OpensWords}
 use Rattle.vip_verbs.specs.declared.prepared.Prepared.{Prepared}
 use Rattle.vip_verbs.specs.Outcome.{HasOutcome}
-use Rattle.vip_tools.specs.Judged.Verdict.{Refused, GivenUp}
+use Rattle.vip_tools.specs.Code.{GameComes}
+use Rattle.vip_tools.specs.Judged.Verdict.{Given, Refused, GivenUp}
 use Rattle.vip_tools.specs.Outcome.{Shown}
 use Rattle.vip_tools.specs.Refusal.{too_large_status}
 use Rattle.vip_tools.specs.Report.{usage, bad_source, bad_state, cannot_read, too_large_report, write_fault, no_memory, report_pieces}
@@ -196,7 +200,7 @@ Says CommandsTooLarge call = Oversize CommandsTooLarge call
 Says BadState call = Oversize BadState call ⊎ FaultyState call
 Says MessageTooLarge call = Oversize MessageTooLarge call
 Says CertificateTooLarge call = Oversize CertificateTooLarge call
-Says NoCertificate call = GivesUp call
+Says NoCertificate call = GivesUp call ⊎ Rejects NoCertificate call
 Says RomTooLarge call = Oversize RomTooLarge call
 Says RamTooLarge call = Oversize RamTooLarge call
 Says status call = Rejects status call
@@ -258,10 +262,9 @@ pub record Offers (call : Call) (asked : Asked) (files : FileMap) : Type 0 where
   pub told : call.files.told ≡ Some files
   pub quiet : IsQuiet call.files.faults call.files'.faults
 
--- a search is asked for, which may find nothing: what it then says is true of the game or of the source
+-- a search is asked for, which may find nothing though there is something: what it then says is true of the source
 abbrev pub IsSearchShape : Request (Unit {0}) → Type 0
 IsSearchShape (Text (Timing entry p k) source) = Unit {0}
-IsSearchShape (Certify game edition) = Unit {0}
 IsSearchShape _ = ⊥
 
 abbrev pub IsSearch : {N : Type 0} → Request N → Type 0
@@ -358,6 +361,16 @@ ProvesCertified call =
     → HasOutcome loaded (Shown pieces status report)
     → Certifies loaded pieces
 
+-- Where the words and the contents come to it that a game has no certificate, there is none: no text of at most 1,048,576 bytes is one that `safe` accepts for
+-- it. And where they come to a certificate, it is the least: each other one has a line around each of its lines.
+abbrev pub DecidesCertify : Call → Type 0
+DecidesCertify call =
+    (asked : Asked) (code : Code (List ℕ)) (edition : Edition) (game report : List ℕ)
+    → Asks call asked (Certify code edition)
+    → GameComes edition code (Given game)
+    → HasOutcome (Certify code edition) (Refused NoCertificate report)
+    → HasNone edition game
+
 -- ---- what a state says that was saved
 
 -- Where the words and the contents come to the file of a saved state, it shows the board's state at the run's last dispatch point, and whoever begins there
@@ -400,10 +413,10 @@ BringsMessages call =
 
 -- What the program promises of each call. The body is held to `says`: what its answer tells of words, files, output and report. What follows for a
 -- reader stands beside it. `words` follows from `says` alone, `due`, `complete` and `rom` as each source gives its ROM, `timed` by the laws of every run and
--- of its time. `language`, `certified`, `saved`, `checked` and `linked` are laws of what words and contents come to, and `least` is one of the language: they
--- hold of any body.
+-- of its time. `language`, `certified`, `decided`, `saved`, `checked` and `linked` are laws of what words and contents come to, and `least` is one of the
+-- language: they hold of any body.
 pub record Promises (status : Status) (call : Call) : Type 0 where
-  -- what the answer says: exact output for Done and Stopped, of `certify` some certificate that is accepted, each refusal's cause, and which reads were made
+  -- what the answer says: exact output for Done and Stopped, of `certify` the least certificate that is accepted, each refusal's cause, and which reads were made
   pub says : Says status call
   -- Where a game is run, its run is one of CHIP-8, within the bounds, also at a wait for a key; each picture is the screen at the last dispatch
   -- point, and a stop names its instruction. An interrupt comes exactly in its cycle of each frame, and none while the screen is changed.
@@ -415,6 +428,8 @@ pub record Promises (status : Status) (call : Call) : Type 0 where
   pub least : LeastBounds
   -- where a certificate is accepted or written, its routine leaves in time, or its game never stops
   pub certified : ProvesCertified call
+  -- where `certify` says that a game has no certificate, there is none
+  pub decided : DecidesCertify call
   -- a saved state is that of the run's last dispatch point, and what goes on from it is the rest of the run
   pub saved : ContinuesSaved call
   -- where a source is checked, what is told agrees with what `asm` makes of it

@@ -19,8 +19,8 @@ use Rattle.cycle_check.specs.declared.fault.CertFault.TheVariants as cert
 use Rattle.cycle_check.specs.declared.fault.TimingFault.{TimingFault}
 use Rattle.cycle_check.specs.declared.fault.TimingFault.TheVariants as timing
 use Rattle.cycle_check.specs.declared.fault.TimingFault.TheVariants.{NotFound}
-use Rattle.game_check.specs.Obstacles.{IsFindFault}
-use Rattle.game_check.specs.Proof.{proof_of, IsAccepted}
+use Rattle.game_check.specs.Least.{IsFound as IsGameFound, IsWhy}
+use Rattle.game_check.specs.Proof.{proof_of}
 use Rattle.game_check.specs.declared.fault.FindFault.{FindFault}
 use Rattle.game_check.specs.declared.fault.FindFault.TheVariants as find
 use Rattle.game_check.specs.declared.fault.ProofFault.{ProofFault}
@@ -137,9 +137,8 @@ find_refusal (find.NotFound obstacle) = NoCertificate obstacle
 find_refusal find.NoMemory = NoMemory
 
 abbrev pub ProofFound : Edition → List ℕ → Judged (List ℕ)
-ProofFound e game = judged (λ text. IsAccepted e game text × (length text ≤ most_text)) (IsFindFault e game) find_refusal
+ProofFound e game = judged (IsGameFound e game) (IsWhy e game) find_refusal
 
--- Some certificate that `safe` accepts, which is small enough for it; or where the search for one ended, which is true of the game: of which games one is
--- found, and what is named where none is, nothing is said.
+-- The least certificate that `safe` accepts, exactly where there is one that is small enough for it; or why there is none.
 abbrev pub CertifyComes : Edition → List ℕ → Judged Output
 CertifyComes e game = bind (ProofFound e game) Writes

@@ -1,10 +1,10 @@
 -- What a judgement comes to, and chains of judgements: the first fault of this, or what it gives; then that.
 use Rattle.std.specs.Prelude.{◌≡◌, ◌⊎◌, ℕ, List, Result, Ok, Err}
 use Rattle.vip_tools.specs.declared.refusal.Refusal.{Refusal}
-use Rattle.vip_tools.specs.declared.refusal.Refusal.TheVariants.{Usage, Unread, TooLarge, State, NoCertificate, NoTiming, NoMemory}
+use Rattle.vip_tools.specs.declared.refusal.Refusal.TheVariants.{Usage, Unread, TooLarge, State, NoTiming, NoMemory}
 use Rattle.vip_tools.specs.declared.status.Status.{Status}
 use Rattle.vip_tools.specs.Refusal.{status_of}
-use Rattle.vip_tools.specs.Report.{no_certificate, no_timing, report_of}
+use Rattle.vip_tools.specs.Report.{no_timing, report_of}
 
 -- A judgement gives a value; or refuses, with a status and its report; or gives up, with a report, which is never due.
 pub data Verdict (A : Type 0) : Type 0 where
@@ -54,7 +54,6 @@ cause_of Usage = Elsewhere
 cause_of (Unread name) = Elsewhere
 cause_of (TooLarge kind) = Elsewhere
 cause_of (State fault) = Elsewhere
-cause_of (NoCertificate obstacle) = Nothing (no_certificate obstacle)
 cause_of (NoTiming why) = Nothing (no_timing why)
 cause_of NoMemory = Memory
 cause_of refusal = Fault (status_of refusal) (report_of refusal)

@@ -9,6 +9,8 @@ use Rattle.cycle_check.specs.declared.fault.CertCause.{CertCause}
 use Rattle.cycle_check.specs.Exits.{obstacle_line}
 use Rattle.cycle_check.specs.FaultNames.{cert_cause_name}
 use Rattle.game_check.specs.declared.fault.Obstacle.{Obstacle}
+use Rattle.game_check.specs.declared.fault.Obstacle.TheVariants.{Open, TooLong}
+use Rattle.game_check.specs.declared.fault.OpenClaim.{OpenClaim}
 use Rattle.game_check.specs.declared.fault.ProofCause.{ProofCause}
 use Rattle.game_check.specs.FaultNames.{proof_cause_name}
 use Rattle.chip8_source.specs.declared.fault.ImageFault.{ImageFault}
@@ -118,11 +120,16 @@ bad_certificate line cause = at_line (codes "vip: certificate line ") line (cert
 abbrev pub bad_proof : ℕ → ProofCause → List ℕ
 bad_proof line cause = at_line (codes "vip: proof line ") line (proof_cause_name cause)
 
--- where the search for a certificate ended: why, the opcode where it has one, pc, the range of I, and the stack
-unfoldable pub no_certificate : Obstacle → List ℕ
-no_certificate o =
-    codes "vip: no certificate: " ++ proof_cause_name o.cause ++ opcode_part o.opcode ++ codes " at " ++ hex4 o.claim.point.pc ++ codes " with I "
-    ++ hex4 o.claim.low ++ codes " to " ++ hex4 o.claim.high ++ codes " stack" ++ words_text o.claim.point.stack.items ++ newline
+-- a claim of a game that can't be closed: its cause, the opcode where it has one, pc, the range of I, and the stack
+unfoldable pub open_line : OpenClaim → List ℕ
+open_line o =
+    codes "vip: no certificate: " ++ proof_cause_name o.cause ++ opcode_part o.opcode ++ codes " at " ++ hex4 o.point.pc ++ codes " with I "
+    ++ hex4 o.low ++ codes " to " ++ hex4 o.high ++ codes " stack" ++ words_text o.point.stack.items ++ newline
+
+-- why a game has no certificate: a claim that can't be closed; or that each would be too long
+abbrev pub no_certificate : Obstacle → List ℕ
+no_certificate TooLong = codes "vip: no certificate: TooLong" ++ newline
+no_certificate (Open o) = open_line o
 
 -- why no certificate of a routine was found: its entry has no number, or where the search ended
 abbrev pub no_timing : NoTiming → List ℕ

@@ -1,13 +1,13 @@
-//! The line that says where the search for a game's certificate ended.
+//! The line that says why a game has no certificate.
 
 ghost use Rattle.std.specs.Prelude.{◌≡◌, ◌+◌, ◌*◌, ◌≤◌, ◌++◌, [], length};
 ghost use Rattle.arrayvec.specs.ArrayVec.{array_vec_len};
 ghost use Rattle.vip_byte.specs.HexText.{words_text};
 ghost use Rattle.vip_byte.specs.Room.{HasRoom};
 ghost use Rattle.vip_text.specs.Stops.{opcode_part};
-ghost use Rattle.vip_tools.specs.Report.{no_certificate};
+ghost use Rattle.vip_tools.specs.Report.{no_certificate, open_line};
 
-use game_check::Obstacle;
+use game_check::{Obstacle, OpenClaim};
 use vip_byte::{Buffer, hex4, put};
 
 /// Appends an opcode behind a blank, where there is one.
@@ -34,15 +34,25 @@ fn put_addresses(into: &mut Buffer, addresses: &[u16])
     }
 }
 
-/// Writes the line into an empty buffer: the cause, the opcode where it has one, pc, the range of I, and the stack.
+/// Writes the line into an empty buffer: a claim that can't be closed, or that each certificate would be too long.
 pub fn obstacle_text(obstacle: &Obstacle, into: &mut Buffer)
     requires { into.old.items ≡ [] }
     ensures { into.new.items ≡ no_certificate obstacle.now }
 {
-    let claim = &obstacle.claim;
+    match obstacle {
+        Obstacle::TooLong => put(into, b"vip: no certificate: TooLong\n"),
+        Obstacle::Open(claim) => open_text(claim, into),
+    }
+}
+
+// The cause, the opcode where it has one, pc, the range of I, and the stack.
+fn open_text(claim: &OpenClaim, into: &mut Buffer)
+    requires { into.old.items ≡ [] }
+    ensures { into.new.items ≡ open_line claim.now }
+{
     put(into, b"vip: no certificate: ");
-    put(into, obstacle.cause.name().as_bytes());
-    put_opcode(into, obstacle.opcode);
+    put(into, claim.cause.name().as_bytes());
+    put_opcode(into, claim.opcode);
     put(into, b" at ");
     put(into, &hex4(claim.point.pc));
     put(into, b" with I ");

@@ -1,7 +1,7 @@
 use Rattle.vip_text.specs.StateFile.{shown}
 use Rattle.vip_call.proofs.CertifiedLemmas.{proves_certified}
 use Rattle.vip_call.proofs.CheckedLemmas.{checks_sources}
-use Rattle.vip_call.proofs.Outcomes.{roms_given}
+use Rattle.vip_call.proofs.Outcomes.{decides_certify, roms_given}
 use Rattle.vip_call.proofs.LinkedLemmas.{brings_messages}
 use Rattle.vip_call.proofs.LanguageLemmas.{speaks_chip8}
 use Rattle.vip_call.proofs.SavedLemmas.{continues_saved, saves_shown}
@@ -27,6 +27,7 @@ returns c words files files' out out' err err' opened status opens finishes =
           (λ e f bytes a script limit. c.every_time.ensures.from_any_start e (shown f) (c.file_may_start.ensures e f bytes a) script limit)
           (saves_shown c.saved_joins.ensures) roms _ _ says;
       least = c.least_bounds.ensures;
+      decided = decides_certify _;
       certified = proves_certified c.accepted_leaves.ensures c.certified_games.ensures c.every_run.ensures _;
       saved = continues_saved c.saved_joins.ensures c.goes_on_behind.ensures _;
       checked = checks_sources _;

@@ -1,15 +1,15 @@
 use Rattle.std.proofs.Common.{inl, refl, subst}
-use Rattle.game_check.specs.Obstacles.{IsFindFault}
+use Rattle.game_check.specs.Least.{IsWhy}
 use Rattle.game_check.specs.declared.fault.FindFault.TheVariants.{NotFound}
 use Rattle.vip_tools.proofs.certificates.certify.Goals as goal
 
 pub returns-in-Ok : goal.returns-in-Ok
-returns-in-Ok c = record { value = c.in-Ok.text.items; gives = (c.in-Ok.ensures.accepted, c.in-Ok.ensures.fits); here = refl }
+returns-in-Ok c = record { value = c.in-Ok.text.items; gives = c.in-Ok.ensures.found; here = refl }
 
 pub returns-in-Err-NotFound : goal.returns-in-Err-NotFound
 returns-in-Err-NotFound c =
     inl (record {
       fault = NotFound c.in-Err-NotFound.obstacle;
-      is = subst (IsFindFault c.args.edition c.args.game.now) c.in-Err-NotFound.field-0-is c.in-Err-NotFound.ensures.fault;
+      is = subst (IsWhy c.args.edition c.args.game.now) c.in-Err-NotFound.field-0-is c.in-Err-NotFound.ensures.why;
       tells = refl;
     })

@@ -1,8 +1,8 @@
-use Rattle.vip_tools.specs.Report.{no_certificate}
-use Rattle.vip_tools.proofs.obstacle.obstacle_text.Goals as goal
+use Rattle.vip_tools.specs.Report.{open_line}
+use Rattle.vip_tools.proofs.obstacle.open_text.Goals as goal
 
 pub returns : goal.returns
-unfolding no_certificate
+unfolding open_line
 returns c =
     rw (
       c.put-10.ensures.items,

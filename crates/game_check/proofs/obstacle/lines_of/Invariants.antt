@@ -1,7 +1,0 @@
-use Rattle.std.proofs.Common.{◌≤◌, take}
-use Rattle.std.specs.List.{sum_by}
-use Rattle.game_check.specs.Obstacles.{line_bytes}
-use Rattle.game_check.proofs.obstacle.lines_of.Given as goal
-
-abbrev pub invariant-loop-claim : goal.invariant-loop-claim
-invariant-loop-claim l = l.total ≤ sum_by line_bytes (take l.claim-index l.claims)
