@@ -361,6 +361,14 @@ grown_on old mid new a b r first second is = record {
   same = λ stays. let each = or_none a b (sym is ∙ stays) in second.same each.1 ∙ first.same each.0;
 }
 
+-- what grows in what grew
+pub grown_first : (old mid new : Search) (a b : Bool) → HasGrown old mid a → a ≡ true → HasGrown mid new b → HasGrown old new true
+grown_first old mid new a b first up second = grown_on old mid new a b true first second (up_both b a up)
+  where
+    up_both : (b a : Bool) → a ≡ true → true ≡ (b || a)
+    up_both true a h = refl
+    up_both false a h = sym h
+
 pub neither : (a b r : Bool) → r ≡ (b || a) → r ≡ false → (a ≡ false) × (b ≡ false)
 neither a b r is stays = or_none a b (sym is ∙ stays)
 

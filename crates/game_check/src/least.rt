@@ -1,7 +1,7 @@
 //! The least family of claims that is closed under the steps of a game.
 //!
 //! It grows claim by claim to what is left at the next points, and each closed family has a claim around each of its claims all along. So where nothing
-//! grows any more, it is the least one that is closed.
+//! grows any more, it is the least one that is closed. A round over all claims tells that; between two rounds only claims that grew are followed.
 
 ghost use Rattle.std.specs.Prelude.{◌≡◌, true, false, nat_le, slice_get, IfOk, MatchOption, Some};
 ghost use Rattle.std.specs.List.{sum_by};
@@ -15,7 +15,14 @@ use crate::closed::{
 };
 use chip8_lang::{Edition, Instr};
 use std::alloc::{AllocError, Global};
+use std::collections::VecDeque;
 use vip_byte::MOST_TEXT;
+
+/// The most lines of a certificate: each has three words at least, of five bytes.
+const MOST_LINES: usize = MOST_TEXT / 15;
+
+/// How often claims are followed between two rounds, for each claim: a round costs little beside that.
+const TURNS: usize = 16;
 
 /// The claims met so far, in order.
 #[derive(Drop)]
@@ -23,6 +30,8 @@ pub struct Search<'a> {
     edition: Edition,
     game: &'a [u8],
     claims: Vec<Claim>,
+    // the points of the claims that grew and wait to be followed, the oldest first
+    waiting: VecDeque<Point>,
 }
 
 /// The least closed family of a game, or none where its lines have more bytes than a certificate may.
@@ -38,11 +47,13 @@ pub fn least_family(
         edition,
         game,
         claims: Vec::new(alloc),
+        waiting: VecDeque::new(alloc),
     };
     while fits(search.claims.as_slice()) {
         if !search.round()? {
             return Ok(Some(search.claims));
         }
+        search.spread()?;
     }
     Ok(None)
 }
@@ -61,6 +72,44 @@ impl Search<'_> {
             }
         }
         Ok(grew)
+    }
+
+    // Follows the claims that wait, until none does, or for as many turns as the claims allow. Whether something grew.
+    fn spread(&mut self) -> Result<bool, AllocError>
+        requires { HasMet self.old }
+        ensures { IfOk result (HasGrown self.old self.new) }
+    {
+        let mut grew = false;
+        for _ in 0..self.claims.len().saturating_mul(TURNS) {
+            if self.claims.len() > MOST_LINES {
+                break;
+            }
+            let Some(place) = self.next_waiting() else {
+                break;
+            };
+            if self.follow(place)? {
+                grew = true;
+            }
+        }
+        Ok(grew)
+    }
+
+    // The place of the next claim that waits. It waits no longer.
+    fn next_waiting(&mut self) -> Option<usize>
+        requires { HasMet self.old }
+        ensures { HasGrown self.old self.new false }
+    {
+        let Some(point) = self.waiting.pop_front() else {
+            return None;
+        };
+        match self
+            .claims
+            .as_slice()
+            .binary_search_by(|known| known.point.order(&point))
+        {
+            Ok(place) => Some(place),
+            Err(_) => None,
+        }
     }
 
     // Meets what a claim leaves at its next points. Whether something grew.
@@ -96,8 +145,24 @@ impl Search<'_> {
         }
     }
 
-    // The claim of this point grows to hold this one's range, or this one is the first of its point. Whether something grew.
+    // Meets a claim: its point waits where something grew. Whether it did.
     fn meet(&mut self, claim: Claim) -> Result<bool, AllocError>
+        requires kept { HasMet self.old }
+        requires met { IsMet self.old.edition self.old.game.now claim }
+        requires proper { IsProper claim }
+        ensures grown { IfOk result (HasGrown self.old self.new) }
+        ensures covered { IfOk result (λ grew. grew ≡ false → IsCovered self.old.claims.items claim) }
+    {
+        let Claim { point, .. } = claim.copy();
+        let grew = self.join(claim)?;
+        if grew {
+            self.waiting.push_back(point)?;
+        }
+        Ok(grew)
+    }
+
+    // The claim of this point grows to hold this one's range, or this one is the first of its point. Whether something grew.
+    fn join(&mut self, claim: Claim) -> Result<bool, AllocError>
         requires kept { HasMet self.old }
         requires met { IsMet self.old.edition self.old.game.now claim }
         requires proper { IsProper claim }

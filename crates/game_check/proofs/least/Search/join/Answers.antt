@@ -3,7 +3,7 @@ use Rattle.std.proofs.lemmas.Fn.{always_returns_same}
 use Rattle.game_check.specs.Grammar.{order}
 use Rattle.game_check.proofs.Covering.{insert_met, weights-insert, widened_covers, widened_met, widened_more, widened_same}
 use Rattle.game_check.proofs.Ordered.{answers_rise}
-use Rattle.game_check.proofs.least.Search.meet.Goals as goal
+use Rattle.game_check.proofs.least.Search.join.Goals as goal
 
 pub returns-in-Ok-clause-grown : goal.returns-in-Ok-clause-grown
 returns-in-Ok-clause-grown c =
