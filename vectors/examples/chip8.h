@@ -5,6 +5,8 @@
 enum { FRAME = 3668, INTERRUPT = 1092, ROUTINE = 1846, FONT_AT = 0x8700, MOST_EVENTS = 100000 };
 enum stop { RUNS, MACHINE_CALL, UNKNOWN, FETCH_OUTSIDE, READ_OUTSIDE, WRITE_OUTSIDE, STACK_FULL, STACK_EMPTY };
 
+static const char *const STOPS[] = {"", "MachineCall", "Unknown", "FetchOutside", "ReadOutside", "WriteOutside", "StackFull", "StackEmpty"};
+
 struct event { long cycle; int key, down; };
 
 struct chip8 {
@@ -13,9 +15,13 @@ struct chip8 {
     int depth, rows, top;
     uint64_t screen[64];
     long cycle, tick; /* those of the next instruction and of the next tick */
+    long clock; /* of each instruction; 0 is no clock, so no tick */
     int events;
     struct event script[MOST_EVENTS];
 };
+
+/* Who is told of the dispatch points and of the pictures of a run. */
+typedef void listener(const struct chip8 *c);
 
 static const uint8_t FONT[80] = {
     0xF0, 0x90, 0x90, 0x90, 0xF0, 0x20, 0x60, 0x20, 0x20, 0x70, 0xF0, 0x10, 0xF0, 0x80, 0xF0, 0xF0, 0x10, 0xF0, 0x10, 0xF0,
@@ -26,7 +32,9 @@ static const uint8_t FONT[80] = {
 
 static void chip8_start(struct chip8 *c, int tall)
 {
+    long clock = c->clock;
     memset(c, 0, sizeof *c);
+    c->clock = clock;
     c->rows = tall ? 64 : 32;
     c->top = tall ? 0xD9F : 0xE9F;
     c->pc = 0x200;
@@ -200,4 +208,49 @@ static long key_taken(const struct chip8 *c, int *key)
             return event->cycle;
     }
     return -1;
+}
+
+static void tick_up_to(struct chip8 *c, long cycle, long limit, listener *picture)
+{
+    for (; c->clock && c->tick < cycle; make_tick(c))
+        if (c->tick - INTERRUPT + 2912 <= limit)
+            picture(c);
+}
+
+/* Makes an instruction. Answers the stop; the cycle is the limit where it doesn't end. */
+static enum stop go_on(struct chip8 *c, long limit, listener *picture)
+{
+    enum stop stop = stop_of(c);
+    int code = stop ? 0 : opcode(c), key, is_wait = (code & 0xF0FF) == 0xF00A;
+    if (stop)
+        return stop;
+    if (is_wait) {
+        long cycle = key_taken(c, &key);
+        tick_up_to(c, cycle < 0 || cycle > limit ? limit : cycle, limit, picture);
+        c->cycle = cycle < 0 ? limit : cycle > c->cycle ? cycle : c->cycle;
+        c->v[code >> 8 & 15] = cycle < 0 ? 0 : key, c->pc += 2;
+    } else {
+        if (c->clock && (code == 0x00E0 || code >> 12 == 0xD)) {
+            c->cycle = c->tick + ROUTINE;
+            tick_up_to(c, c->tick + 1 < limit ? c->tick + 1 : limit, limit, picture);
+            if (c->cycle - ROUTINE >= limit)
+                return RUNS;
+        }
+        stop = step(c, code);
+    }
+    c->cycle += stop ? 0 : c->clock ? c->clock : 100;
+    for (; !stop && c->clock && c->tick < c->cycle && c->tick < limit; c->cycle += is_wait ? 0 : ROUTINE)
+        tick_up_to(c, c->tick + 1, limit, picture);
+    return stop;
+}
+
+/* Runs a game up to its stop, which is answered, or to the limit. */
+static enum stop chip8_run(struct chip8 *c, long limit, listener *point, listener *picture)
+{
+    enum stop stop = RUNS;
+    for (; !stop && c->cycle < limit; stop = go_on(c, limit, picture))
+        point(c);
+    if (!stop)
+        tick_up_to(c, limit, limit, picture);
+    return stop;
 }
