@@ -132,10 +132,11 @@ bits:   LD V2, V1
         SE V1, V2
         JP differ
         LD right, 0
-differ: ADD V3, V3
-        SE V3, 0
+differ: SNE V3, 0x80
+        JP passed
+        ADD V3, V3
         JP bits
-        CALL show
+passed: CALL show
 
 ; 5: 7XKK wraps, and leaves VF
         LD VF, 7
@@ -306,7 +307,7 @@ differ: ADD V3, V3
         CALL show
 
 ; 13: the flag is written last: it is what VF has where X is F
-        LD VF, 255
+        LD VF, 254
         LD V1, 2
         ADD VF, V1
         SE VF, 1
@@ -350,13 +351,13 @@ differ: ADD V3, V3
         SHR V0, VF
         SE V0, 4
         LD right, 0
-        LD VF, 0x81
+        LD VF, 0x83
         SHL V0, VF
-        SE V0, 2
-        LD right, 0
-        LD VF, 4
-        OR V0, VF
         SE V0, 6
+        LD right, 0
+        LD VF, 0x41
+        OR V0, VF
+        SE V0, 0x47
         LD right, 0
         CALL show
 
@@ -367,7 +368,7 @@ differ: ADD V3, V3
         CALL deep1
         SE V0, 12
         LD right, 0
-        SE V1, 11
+        SE V1, 66               ; each return once, of 1 to 11
         LD right, 0
         SE VF, 7
         LD right, 0
@@ -626,6 +627,7 @@ hits:   LD I, dot
         LD V0, 61
         LD V1, 0
         DRW V0, V1, 15
+        CALL lit
         LD V0, 61
         LD V1, 14
         CALL lit
@@ -785,43 +787,43 @@ deep1:  ADD V0, 1
         RET
 deep2:  ADD V0, 1
         CALL deep3
-        ADD V1, 1
+        ADD V1, 2
         RET
 deep3:  ADD V0, 1
         CALL deep4
-        ADD V1, 1
+        ADD V1, 3
         RET
 deep4:  ADD V0, 1
         CALL deep5
-        ADD V1, 1
+        ADD V1, 4
         RET
 deep5:  ADD V0, 1
         CALL deep6
-        ADD V1, 1
+        ADD V1, 5
         RET
 deep6:  ADD V0, 1
         CALL deep7
-        ADD V1, 1
+        ADD V1, 6
         RET
 deep7:  ADD V0, 1
         CALL deep8
-        ADD V1, 1
+        ADD V1, 7
         RET
 deep8:  ADD V0, 1
         CALL deep9
-        ADD V1, 1
+        ADD V1, 8
         RET
 deep9:  ADD V0, 1
         CALL deep10
-        ADD V1, 1
+        ADD V1, 9
         RET
 deep10: ADD V0, 1
         CALL deep11
-        ADD V1, 1
+        ADD V1, 10
         RET
 deep11: ADD V0, 1
         CALL deep12
-        ADD V1, 1
+        ADD V1, 11
         RET
 deep12: ADD V0, 1
         RET
