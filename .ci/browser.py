@@ -114,17 +114,19 @@ class Browser:
 
 KEYS = {"Enter": 13, " ": 32, "End": 35, "ArrowDown": 40, "ArrowUp": 38, "ArrowLeft": 37, "ArrowRight": 39}
 
-# What the page shows: the line and its number, the fields that are marked, the frame, and the dots, as they are drawn and as text.
+# What the page shows: the line and its number, that of the source, the fields that are marked, the frame, and the dots, as they are drawn and as text.
 SHOWN = r"""(() => {
   const line = document.querySelector('[aria-selected=true]'), dots = document.getElementById('picture').getContext('2d').getImageData(0, 0, 64, 128).data;
   document.getElementById('text').open = true;
   document.getElementById('text').dispatchEvent(new Event('toggle'));
-  const nameOf = cell => cell.closest('table').querySelectorAll('thead tr > *')[cell.cellIndex].textContent;
+  const source = line.querySelector('.source')?.textContent ?? '', marked = document.querySelector('#source [aria-current]');
+  const changedIn = tables => Array.from(document.querySelectorAll(tables), cell => [cell.title, cell.textContent]);
   return {
-    line: line.textContent, number: +line.dataset.line, frame: +document.getElementById('frame').value,
-    changed: Array.from(document.querySelectorAll('td.changed'), cell => [nameOf(cell), cell.textContent]),
+    line: Array.from(line.childNodes, node => node.className === 'source' ? '' : node.textContent).join(''), source, number: +line.dataset.line,
+    frame: +document.getElementById('frame').value, marked: marked && [+marked.dataset.source, marked.textContent],
+    changed: changedIn('#line-table .changed, #variables-table .changed'), stored: changedIn('#memory-table .changed'),
     dots: Array.from({ length: 8192 }, (_, dot) => dots[4 * dot] ? '#' : '.').join('').match(/.{64}/g), text: document.getElementById('as-text').textContent,
-    words: document.querySelector('#line-table tbody tr:last-child td:nth-child(4)')?.textContent,
+    words: document.querySelector('#line-table td[title="in words"]')?.textContent, said: document.getElementById('said').textContent,
     keys: Array.from(document.querySelectorAll('#keypad .down'), key => key.textContent).sort().join(''),
     isWhole: !document.getElementById('picture').className, frameIs: document.getElementById('frame-is').textContent,
     plotIs: document.getElementById('plot-is').textContent, end: document.querySelector('#lines .end')?.textContent,
@@ -147,6 +149,40 @@ def run_of(*words):
 def lines_of(name):
     with open(name, encoding="ascii") as file:
         return file.read().splitlines()
+
+
+def listed(line):
+    """A line as the page lists it, without that of the source: the words behind the opcode."""
+    found = re.fullmatch(r"(.{4} .{4})( V .*?)(?:  ; (.*?))?(?:  \| .*)?", line)
+    if found:
+        return found[1] + (found[3] or "") + found[2]
+    found = re.fullmatch(r"(.{10} [0-9A-F]{4} [0-9A-F ]{6}) (.{11})( P .*?)(?:  \| .*)?", line)
+    return found[1] + found[2].strip() + found[3] if found else line
+
+
+class Listing:
+    """What `vip list` says: the texts of the lines, and which line gave the byte at an address."""
+
+    def __init__(self, *words):
+        self.texts, self.bytes, self.names = [], {}, {}
+        for line in run_of("list", *words).decode().splitlines():
+            if re.match(" {6}[0-9A-F]{4} ", line):
+                address, digits = int(line[6:10], 16), line[11:]
+            elif re.match(r" *\d+ ", line):
+                _, value, rest = line.lstrip().split(" ", 2) if line.lstrip().split(" ", 2)[1][0] != "V" else (0, "0", "      ")
+                address, digits = int(value, 16), re.match("[0-9A-F]*", rest)[0] if rest[:1] != " " else ""
+                self.texts.append(line[max(5, len(line) - len(line.lstrip()) + len(line.lstrip().split(" ")[0])) + 13:])
+            else:
+                self.names.update([line.split()] if line else [])
+                continue
+            for at in range(0, len(digits), 2):
+                self.bytes[address + at // 2] = (len(self.texts), digits[at:at + 2])
+
+    def source_of(self, address, digits):
+        """The number of the line and its text, where the bytes are those of the source."""
+        given = [self.bytes.get(address + at // 2, (0, ""))[1] == digits[at:at + 2] for at in range(0, len(digits), 2)]
+        number = self.bytes[address][0] if all(given) else 0
+        return number and f"{number}: {self.texts[number - 1].strip()}" or ""
 
 
 def fields_of_game(line):
@@ -192,7 +228,7 @@ def look_at_game(browser):
     def compare(place, number):
         shown, before, here = browser.ask(SHOWN), lines[max(0, number - 1)], lines[number]
         screen = run_of("trace", words[0], str(cycles[number]), *words[1:], "--screen").decode().splitlines()[-32:]
-        check(f"pen, {place}: the line is {shown['line']} and not {here}", shown["line"] == here and shown["number"] == number)
+        check(f"pen, {place}: the line is {shown['line']} and not {here}", shown["line"] == listed(here) and shown["number"] == number)
         check(f"pen, {place}: marked are {shown['changed']}", sorted(shown["changed"]) == changed_between(fields_of_game(before), fields_of_game(here)))
         check(f"pen, {place}: the screen", shown["dots"] == [row for row in screen for _ in range(4)] and shown["text"].split() == screen)
         frame, points = shown["frame"], [(cycle + FRAME - END) // FRAME for cycle in cycles].count(shown["frame"])
@@ -239,7 +275,8 @@ def play_film(browser):
 
 def look_at_program(browser):
     """Three places of a program. The picture of frame m is the last one that `play` writes up to its end."""
-    lines = lines_of("keypad.trace")
+    # (a label is no line of its own)
+    lines, listing = [line for line in lines_of("keypad.trace") if not line.endswith(":")], Listing("examples/keypad.asm")
 
     def compare(place, number, frame):
         shown = browser.ask(SHOWN)
@@ -247,12 +284,16 @@ def look_at_program(browser):
         is_instruction = lines[number][35:36] == "P"
         changed = changed_between(fields_of_program(before), fields_of_program(lines[number])) if before and is_instruction else []
         until = run_of("play", "keypad.bin", str(FRAME * frame + END), "--ram", "--keys", "examples/keypad.keys")
-        check(f"keypad, {place}: the line is {shown['line']} and not {lines[number]}", shown["line"] == lines[number] and shown["number"] == number)
+        check(f"keypad, {place}: the line is {shown['line']} and not {lines[number]}", shown["line"] == listed(lines[number]) and shown["number"] == number)
+        steps = sum(line[35:36] == "P" and (int(line[:10]) + FRAME - END) // FRAME == frame for line in lines)
+        check(f"keypad, {place}: {shown['plotIs']}", f"Instructions a frame: {steps:,} here" in shown["plotIs"])
+        source = listing.source_of(int(lines[number][11:15], 16), lines[number][16:22].strip()) if is_instruction else ""
+        check(f"keypad, {place}: the source is {shown['source']} and not {source}", shown["source"] == source)
+        check(f"keypad, {place}: marked is {shown['marked']}", (shown["marked"] or [0])[0] == int(source.split(":")[0] or 0))
         check(f"keypad, {place}: marked are {shown['changed']} and not {changed}", sorted(shown["changed"]) == changed)
         check(f"keypad, {place}: the picture", shown["frame"] == frame and shown["isWhole"] and shown["dots"] == rows_of(until[-PICTURE:]))
 
-    # (a label has the cycle of the line that it stands before)
-    cycles = [int(next(line for line in lines[at:at + 9] if not line.endswith(":"))[:10]) for at in range(len(lines))]
+    cycles = [int(line[:10]) for line in lines]
     browser.open("keypad.html", "#frame=3")
     compare("frame 3", max(at for at, cycle in enumerate(cycles) if cycle <= 3 * FRAME + BEGIN), 3)
     browser.write_in("cycle", "30000")
@@ -261,6 +302,63 @@ def look_at_program(browser):
     there = next(at for at in range(here + 1, len(lines)) if "OUT 2" in lines[at])
     browser.write_in("pc", lines[there][11:15].lstrip("0").lower())
     compare("the next OUT 2, by its address", there, (cycles[there] + FRAME - END) // FRAME)
+
+
+def look_at_source(browser):
+    """A game's source: a name as a place, a click on a line of the source, names of variables, and a place that is none."""
+    lines, listing = lines_of("source.trace"), Listing("examples/pen.asm", "--chip8")
+    label, address = next((name, value) for name, value in listing.names.items() if any(line.startswith(value) for line in lines[9:]))
+    first = next(at for at, line in enumerate(lines) if line.startswith(address))
+    browser.open("source.html", f"#pc={label}")
+    shown = browser.ask(SHOWN)
+    source = listing.source_of(int(address, 16), lines[first][5:9])
+    check(f"the first line of {label} is {shown['line']}", shown["number"] == first and shown["source"] == source)
+    check(f"the source's marked line is {shown['marked']} and not {source}", shown["marked"][0] == int(source.split(":")[0]))
+    numbers = [listing.source_of(int(line[:4], 16), line[5:9]).split(":")[0] for line in lines]
+    number = next(number for number in numbers[first + 1:] if number and number != source.split(":")[0])
+    browser.ask(f"document.querySelector('#source [data-source=\"{number}\"]').click()")
+    shown = browser.ask(SHOWN)
+    check(f"a click on line {number} of the source goes to {shown['line']}", shown["number"] == numbers.index(number, first + 1))
+    browser.write_in("pc", "no_such_name")
+    time.sleep(0.6)
+    said = browser.ask("document.getElementById('said').textContent")
+    check(f"a name that is none: the page says: {said}", "is no name of the source" in said)
+    names = {value: name for name, value in listing.names.items() if value[0] == "V"}
+    heads = browser.ask("Array.from(document.querySelectorAll('#variables-table th[scope=col]'), cell => cell.textContent)")
+    check(f"the variables are {heads}", heads == [f"V{at:X}" + (f" {names[f'V{at:X}']}" if f"V{at:X}" in names else "") for at in range(16)])
+
+
+def look_at_registers(browser):
+    """A program without a display has its registers where the picture would be, and the bytes that its source names."""
+    browser.open("sum.html")
+    shown = browser.ask("""[document.getElementById('picture').hidden, !!document.querySelector('#left #variables-table:not([hidden])'),
+      document.querySelector('.display:not([hidden])') === null]""")
+    check(f"a program without a display shows {shown}", shown == [True, True, True])
+    at = next(at for at, line in enumerate(line for line in lines_of("sum.trace") if not line.endswith(":")) if " STR R7 " in line)
+    browser.open("sum.html", f"#line={at + 2}")
+    stored = browser.ask(SHOWN)["stored"]
+    check(f"behind the store the memory shows {stored}", stored == [["total", "0C"]])
+
+
+def look_at_changed(browser):
+    """A program that stores over its first instruction: the line of the source is shown the first time, and not for the changed byte."""
+    browser.open("over.html", "#pc=start")
+    shown = browser.ask(SHOWN)
+    check(f"an instruction of the source has {shown['source']}", shown["source"] == "1: start: LDI 0" and shown["marked"][0] == 1)
+    browser.ask("document.getElementById('same-on').click()")
+    shown = browser.ask(SHOWN)
+    check(f"a changed one, {shown['line']}, has {shown['source']}", "INC RA" in shown["line"] and not shown["source"] and not shown["marked"])
+
+
+def fit_narrow(browser):
+    """In a window of 420 points nothing is cut off, and nothing has to be moved sideways."""
+    browser.call("Emulation.setDeviceMetricsOverride", width=420, height=800, deviceScaleFactor=1, mobile=False)
+    for name in ("pen.html", "source.html", "keypad.html", "sum.html"):
+        browser.open(name, "#line=40")
+        wide = browser.ask("""Array.from(document.querySelectorAll('html, .tables, ol, li, section, form, .row'))
+          .filter(part => part.scrollWidth > part.clientWidth + 1 && part.clientWidth > 0).map(part => part.id || part.tagName + part.className)""")
+        check(f"{name} is cut off in a window of 420 points at {wide}", not wide)
+    browser.call("Emulation.clearDeviceMetricsOverride")
 
 
 def bytes_of(name):
@@ -320,7 +418,7 @@ def refuse_files(browser):
         check(f"{' and '.join(names)}: the page says: {said}", words in said)
         check(f"{' and '.join(names)} is shown all the same", browser.ask("document.getElementById('viewer').hidden"))
     browser.give(["pen.trace", "pen.pbm", "examples/pen.keys"], "!document.getElementById('viewer').hidden")
-    check("the files of a run aren't shown", browser.ask(SHOWN)["line"] == text[0] and not browser.ask("document.getElementById('fault').textContent"))
+    check("the files of a run aren't shown", browser.ask(SHOWN)["line"] == listed(text[0]) and not browser.ask("document.getElementById('fault').textContent"))
 
 
 def refuse_numbers(browser):
@@ -344,7 +442,7 @@ def refuse_numbers(browser):
     browser.open("pen.html", "#pc=hitbat")
     time.sleep(0.6)
     said = browser.ask("document.getElementById('said').textContent")
-    check(f"a place that is none: the page says: {said}", "names no place" in said)
+    check(f"a place that is none: the page says: {said}", "hitbat" in said and "is no name" in said)
 
 
 def open_long(browser):
@@ -371,7 +469,8 @@ def have_names(browser):
 
 
 def main():
-    for looks in ((look_at_game, play_film, look_at_program, look_at_state, refuse_files, refuse_numbers, have_names), (open_long,)):
+    for looks in ((look_at_game, play_film, look_at_program, look_at_source, look_at_registers, look_at_changed, fit_narrow, look_at_state, refuse_files,
+                   refuse_numbers, have_names), (open_long,)):
         browser = Browser(sys.argv[1])
         try:
             for look in looks:
