@@ -1,6 +1,7 @@
 -- What the verbs of certificates come to, by the contents of their files.
 use Rattle.std.specs.Prelude.{◌≡◌, ◌+◌, ◌≤◌, ℕ, List, [], ◌++◌, length, map, codes, decimal, Bool, true, false, Option, Some, None, option_map, unwrap_or, Ok, Err}
 use Rattle.std.specs.List.{range_with_len}
+use Rattle.std.specs.Option.{option_or}
 use Rattle.machine.specs.Ranges.{FitsRom}
 use Rattle.chip8_lang.specs.declared.view.Edition.{Edition}
 use Rattle.vip_byte.specs.HexText.{hex4}
@@ -30,7 +31,6 @@ use Rattle.vip_tools.specs.declared.refusal.Refusal.{Refusal}
 use Rattle.vip_tools.specs.declared.refusal.Refusal.TheVariants.{Certificate, NoCertificate, NoMemory, NoTiming, Proof}
 use Rattle.vip_tools.specs.Files.{most_text, rom_size}
 use Rattle.vip_words.specs.declared.request.Entry.{Entry}
-use Rattle.vip_words.specs.declared.request.Entry.TheVariants.{Address, Name}
 use Rattle.vip_tools.specs.Judged.{Judged, bind, judged}
 use Rattle.vip_tools.specs.Opening.{source_refusal}
 use Rattle.vip_tools.specs.Outcome.{Output, Writes}
@@ -92,14 +92,13 @@ CyclesComes source text exits =
 
 -- ---- a certificate of cycles that is searched for
 
--- the address at which a routine of an assembled source is entered
+-- the address at which a routine of an assembled source is entered: what the name stands for, and else what the digits say
 abbrev pub entry_in : Made → Entry → Option ℕ
-entry_in made (Address address) = Some address
-entry_in made (Name name) = number_named (value_in made.names) name.items
+entry_in made entry = option_or (number_named (value_in made.names) entry.name.items) entry.digits
 
 abbrev pub EntryComes : Made → Entry → Judged ℕ
 EntryComes made entry =
-    judged (λ address. entry_in made entry ≡ Some address) (λ name. (entry ≡ Name name) × (entry_in made entry ≡ None)) (λ name. NoTiming (Undefined name))
+    judged (λ address. entry_in made entry ≡ Some address) (λ name. (entry.name ≡ name) × (entry_in made entry ≡ None)) (λ name. NoTiming (Undefined name))
 
 abbrev pub timing_refusal : TimingFault → Refusal
 timing_refusal (NotFound obstacle) = NoTiming (Ended_at obstacle)

@@ -156,12 +156,10 @@ pub fn cycles<'a>(
 fn entry_address<'a>(made: &Assembly, entry: Entry) -> Result<u16, Refusal<'a>>
     ensures { Answers (EntryComes made.now entry) result }
 {
-    match entry {
-        Entry::Address(address) => Ok(address),
-        Entry::Name(name) => match made.names().number(name.as_slice()) {
-            Some(address) => Ok(address),
-            None => Err(Refusal::NoTiming(NoTiming::Undefined(name))),
-        },
+    let Entry { name, digits } = entry;
+    match made.names().number(name.as_slice()).or(digits) {
+        Some(address) => Ok(address),
+        None => Err(Refusal::NoTiming(NoTiming::Undefined(name))),
     }
 }
 

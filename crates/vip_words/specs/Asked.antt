@@ -21,7 +21,6 @@ use Rattle.vip_words.specs.declared.request.Code.{Code}
 use Rattle.vip_words.specs.declared.request.Code.TheVariants.{Bytes, Source}
 use Rattle.vip_words.specs.declared.request.BuiltIn.TheVariants.{Interpreter, Sender, Receiver}
 use Rattle.vip_words.specs.declared.request.Entry.{Entry}
-use Rattle.vip_words.specs.declared.request.Entry.TheVariants.{Address, Name}
 use Rattle.vip_words.specs.declared.request.MadeGame.TheVariants.{Demo}
 use Rattle.vip_words.specs.declared.request.Memory.TheVariants.{Rom, Ram}
 use Rattle.vip_words.specs.declared.request.OwnText.TheVariants as own
@@ -61,22 +60,19 @@ place_of isa word =
     option_map (λ address. record { isa = isa; address = address })
     (option_and_then (no_less_than (origin_of isa)) (result_ok (hex_number word (last_of isa))))
 
--- a name of an address has from 1 to 32 characters
-abbrev pub name_of : Word → Option Entry
-name_of word = if nat_lt 0 (length word) && nat_le (length word) 32 then Some (Name (record { items = word })) else None
-
--- one to four hexadecimal digits are an address
+-- one to four hexadecimal digits
 abbrev pub number_of : Word → Option ℕ
 number_of word = if nat_le (length word) 4 then result_ok (hex_number word 65535) else None
 
-abbrev pub address_or : Word → Option ℕ → Option Entry
-address_or word None = name_of word
-address_or word (Some address) = Some (Address address)
+-- a name of an address, which has from 1 to 32 characters, or else these digits
+abbrev pub name_or : Option ℕ → Word → Option Entry
+name_or digits word =
+    if nat_lt 0 (length word) && nat_le (length word) 32 then Some (record { name = record { items = word }; digits = digits }) else None
 
--- Where a routine is entered: a name behind `:`, which is 58; else an address, and any other word is a name.
+-- Where a routine is entered: at a name, which it always is behind `:`, which is 58; else the digits count where the source hasn't the name.
 abbrev pub entry_of : Word → Option Entry
 entry_of [] = None
-entry_of (c ∷ cs) = if c == 58 then name_of cs else address_or (c ∷ cs) (number_of (c ∷ cs))
+entry_of (c ∷ cs) = if c == 58 then name_or None cs else name_or (number_of (c ∷ cs)) (c ∷ cs)
 
 -- a register: one hexadecimal digit
 abbrev pub register_of : Word → Option ℕ

@@ -62,9 +62,9 @@ name_in [] = []
 name_in (first ∷ rest) = if first == 58 then rest else first ∷ rest
 
 -- Below, `names` gives the number that a name stands for, and none to any where no source is known.
--- an address: one to four hexadecimal digits say it, and else a name
+-- an address: a name says it, which it always is behind a colon, and else one to four hexadecimal digits
 unfoldable pub address_of : (List ℕ → Option ℕ) → List ℕ → Result ℕ CommandCause
-address_of names word = ok_or (option_or (digits_of word) (names (name_in word))) BadNumber
+address_of names word = ok_or (option_or (names (name_in word)) (digits_of word)) BadNumber
 
 -- a number of moves or of dispatch points, from 1 to 1,000,000
 unfoldable pub steps_of : List (List ℕ) → Result ℕ CommandCause

@@ -85,7 +85,7 @@ pub enum CommandCause {
     BadWord,
     /// The command has another number of operands.
     BadCount,
-    /// An operand is not of its digits, or an address is neither one to four of them nor the name of a number.
+    /// An operand is not of its digits, or an address is neither the name of a number nor one to four of them.
     BadNumber,
     /// A number is out of its range.
     Range,
@@ -228,8 +228,8 @@ impl Commands {
 /// | `dis A N`, `list A N`, `code A N` | N is 1 to 4,096 |
 /// | `regs`, `state`, `screen` | they have no operand |
 ///
-/// Lines and words are those of a key script. N and C are decimal numbers, and A is one to four hexadecimal digits, or a name that stands for a
-/// number, which may have a colon before it. Where no source is known there are no names. Where the board doesn't run a game, `next`, `break`,
+/// Lines and words are those of a key script. N and C are decimal numbers, and A is a name that stands for a number, which may have a colon before
+/// it, or else one to four hexadecimal digits. Where no source is known there are no names. Where the board doesn't run a game, `next`, `break`,
 /// `state`, `screen` and `code` are no commands. With `echo` each command is echoed: `> ` and its line's bytes as they stand are put before its
 /// answer.
 ///

@@ -233,15 +233,15 @@ fn name_in(word: &[u8]) -> &[u8]
     }
 }
 
-// An address: one to four hexadecimal digits, or the name of a number.
+// An address: the name of a number, or else one to four hexadecimal digits.
 #[tactic(auto, unfolding(crate::specs::DebugGrammar::address_of))]
 fn read_address(word: &[u8], names: &Symbols) -> Result<u16, CommandCause>
     ensures { result ≡ address_of (number_named (value_in names.now)) word.now }
 {
-    if let Some(address) = read_digits(word) {
+    if let Some(address) = names.number(name_in(word)) {
         return Ok(address);
     }
-    match names.number(name_in(word)) {
+    match read_digits(word) {
         Some(address) => Ok(address),
         None => Err(CommandCause::BadNumber),
     }

@@ -1,7 +1,7 @@
 //! What the words of a command line ask for.
 
 ghost use Rattle.std.specs.Prelude.{◌≡◌, IfOk, IsErrOf, None, Some, map, option_map, string_bytes};
-ghost use Rattle.vip_words.specs.Asked.{address_or, asked_by, asked_of_verb, built_in_by, code_by, columns_by, edition_by, either_by, entry_of, is_mixed, is_program, isa_by, name_of, number_of, program_by, register_of, run_by, seed_of, start_by};
+ghost use Rattle.vip_words.specs.Asked.{asked_by, asked_of_verb, built_in_by, code_by, columns_by, edition_by, either_by, entry_of, is_mixed, is_program, isa_by, name_or, number_of, program_by, register_of, run_by, seed_of, start_by};
 ghost use Rattle.vip_words.specs.Given.{seen_given};
 ghost use Rattle.vip_words.specs.Request.{asked_of, code_of, program_show_of, show_of, start_of};
 ghost use Rattle.vip_words.specs.declared.table.Verb.TheVariants as verb;
@@ -223,12 +223,13 @@ pub enum ProgramShow<N> {
     Commands { file: N, echo: bool },
 }
 
-/// Where a routine is entered.
+/// Where a routine is entered: at the address that a name stands for, and else at the one that its digits say.
 #[derive(Drop)]
-pub enum Entry {
-    Address(u16),
-    /// At the address that a name stands for, which has from 1 to 32 bytes.
-    Name(EntryName),
+pub struct Entry {
+    /// The word, without the colon before it: from 1 to 32 bytes.
+    pub name: EntryName,
+    /// What one to four hexadecimal digits say, which have no colon before them.
+    pub digits: Option<u16>,
 }
 
 /// The name of an address.
@@ -265,16 +266,16 @@ fn read_seed(word: &str) -> Option<u32>
     Some(number as u32)
 }
 
-/// The name of an address.
-fn read_name(word: &[u8]) -> Option<Entry>
-    ensures { result ≡ name_of word.now }
+/// A name of an address, or else these digits.
+fn read_name(word: &[u8], digits: Option<u16>) -> Option<Entry>
+    ensures { result ≡ name_or digits word.now }
 {
     if word.is_empty() {
         return None;
     }
     let mut name = EntryName::new();
     match name.try_extend_from_slice(word) {
-        Ok(()) => Some(Entry::Name(name)),
+        Ok(()) => Some(Entry { name, digits }),
         Err(_) => None,
     }
 }
@@ -290,24 +291,13 @@ fn read_number(word: &[u8]) -> Option<u16>
     Some(number as u16)
 }
 
-/// An address, or else a name.
-fn read_either(word: &[u8]) -> Option<Entry>
-    ensures { result ≡ address_or word.now (number_of word.now) }
-{
-    match read_number(word) {
-        Some(address) => Some(Entry::Address(address)),
-        None => read_name(word),
-    }
-}
-
-/// Where a routine is entered: an address, or a name, which it always is behind `:`.
+/// Where a routine is entered: at a name, which it always is behind `:`, or else at an address.
 fn read_entry(word: &[u8]) -> Option<Entry>
     ensures { result ≡ entry_of word.now }
 {
     match word {
-        [] => None,
-        [b':', name @ ..] => read_name(name),
-        _ => read_either(word),
+        [b':', name @ ..] => read_name(name, None),
+        _ => read_name(word, read_number(word)),
     }
 }
 
