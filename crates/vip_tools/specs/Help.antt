@@ -4,7 +4,7 @@ use Rattle.vip_byte.specs.Text.{newline}
 use Rattle.vip_tools.specs.Judged.{Judged}
 use Rattle.vip_tools.specs.Outcome.{Output, Writes}
 use Rattle.vip_words.specs.Rules.{Word}
-use Rattle.vip_words.specs.Table.{Row, about, every_verb, row, with_value}
+use Rattle.vip_words.specs.Table.{Row, about, every_verb, notes, row, with_value}
 use Rattle.vip_words.specs.declared.table.Verb.{Verb}
 
 -- a text that is filled up with blanks to a column
@@ -29,7 +29,8 @@ verb_line r = padded (with_words r) verb_column ++ (r.writes ++ newline)
 unfoldable pub verbs_page : List ℕ
 verbs_page = flat_map (λ v. verb_line (row v)) every_verb
 
--- ---- the page of one verb: its words and options, what it writes, what each option is, an example, and where its texts are explained
+-- ---- the page of one verb: its words and options, what it writes, what each option is, what is said of its files, an example, and where its texts are
+-- explained
 
 abbrev pub option_text : Word → List ℕ
 option_text option = word_text true (with_value option)
@@ -40,14 +41,18 @@ option_column = codes "             "
 abbrev pub option_line : Word → List ℕ
 option_line option = codes "  " ++ (padded (with_value option) option_column ++ (about option ++ newline))
 
-unfoldable pub verb_page : Row → List ℕ
-verb_page r =
+abbrev pub note_line : List ℕ → List ℕ
+note_line note = note ++ newline
+
+unfoldable pub verb_page : Row → List (List ℕ) → List ℕ
+verb_page r notes =
     codes "vip " ++ (with_words r ++ (flat_map option_text r.options ++ (newline ++ (r.writes ++ (newline ++ (flat_map option_line r.options
-    ++ (codes "for instance: " ++ (r.example ++ (newline ++ (codes "explained in: " ++ (r.texts ++ newline)))))))))))
+    ++ (flat_map note_line notes
+    ++ (codes "for instance: " ++ (r.example ++ (newline ++ (codes "explained in: " ++ (r.texts ++ newline))))))))))))
 
 abbrev pub help_text : Option Verb → List ℕ
 help_text None = verbs_page
-help_text (Some verb) = verb_page (row verb)
+help_text (Some verb) = verb_page (row verb) (notes verb)
 
 abbrev pub HelpComes : Option Verb → Judged Output
 HelpComes verb = Writes (help_text verb)

@@ -1,8 +1,8 @@
 //! The pages of the verbs, and the version of the program.
 
-ghost use Rattle.std.specs.Prelude.{◌++◌, ◌≡◌, flat_map, IfOk, OnOk};
+ghost use Rattle.std.specs.Prelude.{◌++◌, ◌≡◌, flat_map, map, IfOk, OnOk};
 ghost use Rattle.vip_words.specs.Usage.{row_of};
-ghost use Rattle.vip_tools.specs.Help.{option_line, option_text, padded, verb_line, verb_page, verbs_page, with_words, word_text, HelpComes, VersionComes};
+ghost use Rattle.vip_tools.specs.Help.{note_line, option_line, option_text, padded, verb_line, verb_page, verbs_page, with_words, word_text, HelpComes, VersionComes};
 ghost use Rattle.vip_tools.specs.Work.{TextAnswers};
 
 use crate::Refusal;
@@ -104,13 +104,25 @@ fn option_lines(alloc: Global, options: &[&str]) -> Result<Vec<u8>, AllocError>
     Ok(text)
 }
 
-/// The page of one verb.
-fn verb_page(alloc: Global, row: &Row) -> Result<Vec<u8>, AllocError>
-    ensures { IfOk result (λ text. text.items ≡ verb_page (row_of row.now)) }
+/// Notes, a line each.
+fn note_lines(alloc: Global, notes: &[&str]) -> Result<Vec<u8>, AllocError>
+    ensures { IfOk result (λ text. text.items ≡ flat_map (λ note. note_line note.now) notes.now) }
+{
+    let mut text = Vec::new(alloc);
+    for note in notes {
+        append(&mut text, &[note.as_bytes(), b"\n"])?;
+    }
+    Ok(text)
+}
+
+/// The page of one verb, with these notes.
+fn verb_page(alloc: Global, row: &Row, notes: &[&str]) -> Result<Vec<u8>, AllocError>
+    ensures { IfOk result (λ text. text.items ≡ verb_page (row_of row.now) (map (λ note. note.now) notes.now)) }
 {
     let verb = with_words(alloc, row)?;
     let options = options_text(alloc, row.options)?;
     let lines = option_lines(alloc, row.options)?;
+    let notes = note_lines(alloc, notes)?;
     line(
         alloc,
         &[
@@ -121,6 +133,7 @@ fn verb_page(alloc: Global, row: &Row) -> Result<Vec<u8>, AllocError>
             row.writes.as_bytes(),
             b"\n",
             lines.as_slice(),
+            notes.as_slice(),
             b"for instance: ",
             row.example.as_bytes(),
             b"\nexplained in: ",
@@ -136,7 +149,7 @@ pub fn help<'a>(alloc: Global, verb: Option<Verb>) -> Result<Vec<u8>, Refusal<'a
 {
     let text = match verb {
         None => verbs_page(alloc)?,
-        Some(verb) => verb_page(alloc, &verb.row())?,
+        Some(verb) => verb_page(alloc, &verb.row(), verb.notes())?,
     };
     Ok(text)
 }

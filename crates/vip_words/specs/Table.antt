@@ -1,5 +1,5 @@
 -- The verbs, what may follow each, and what is said of it.
-use Rattle.std.specs.Prelude.{ℕ, List, [], ◌∷◌, Bool, true, false, ◌&&◌, if◌then◌else◌, length, map, Option, bytes_eq, codes, find}
+use Rattle.std.specs.Prelude.{ℕ, List, [], ◌∷◌, ◌++◌, Bool, true, false, ◌&&◌, if◌then◌else◌, length, map, Option, bytes_eq, codes, find}
 use Rattle.std.specs.Option.{option_map_or}
 use Rattle.vip_words.specs.Rules.{Word, flag_option, is_keys, keys_option}
 use Rattle.vip_words.specs.declared.flag.Flag.TheVariants as flag
@@ -90,7 +90,47 @@ row verb.Version =
     made_row (codes "version") ([]) false ([])
     (codes "the name and the version") (codes "vip version") (codes "COMMANDS.md, The words")
 
--- the verbs, in the order of their page
+-- ---- what the page of a verb says of the files that it takes, line by line
+
+abbrev pub either_lines : List (List ℕ)
+either_lines =
+    codes "FILE is a game for the interpreter, with --state a saved state, and with --rom or"
+    ∷ codes "--ram a program for the processor. With --asm it is a source: a game's in words"
+    ∷ codes "of CHIP-8, a program's in words of the processor."
+    ∷ []
+
+abbrev pub command_lines : List (List ℕ)
+command_lines =
+    codes "COMMANDS has one of these a line; A is an address, or with --asm a name:"
+    ∷ codes "  step N     makes N moves"
+    ∷ codes "  to C       goes on to cycle C"
+    ∷ codes "  at A       goes on to where the next instruction is at A"
+    ∷ codes "  watch A N  goes on to where one of N bytes from A on has changed"
+    ∷ codes "  next N     goes on to the N-th next dispatch point"
+    ∷ codes "  break A    goes on to the next dispatch point whose pc is A"
+    ∷ codes "  regs       shows the registers of the processor"
+    ∷ codes "  state      shows the state at the last dispatch point"
+    ∷ codes "  mem A N    shows N bytes from A on"
+    ∷ codes "  dis A N    shows N lines of the disassembly from A on"
+    ∷ codes "  list A N   shows N instructions of the processor from A on"
+    ∷ codes "  screen     shows the screen at the last dispatch point"
+    ∷ codes "  code A N   shows N opcodes of CHIP-8 from A on"
+    ∷ codes "With --rom or --ram there are no dispatch points, and so no next, break, state,"
+    ∷ codes "screen and code."
+    ∷ []
+
+abbrev pub notes : Verb → List (List ℕ)
+notes verb.Trace = either_lines
+notes verb.Play = either_lines
+notes verb.Debug = either_lines ++ command_lines
+notes verb.Save = codes "FILE is a game for the interpreter, with --state a saved state, and with --asm a" ∷ codes "game's source in words of CHIP-8." ∷ []
+notes verb.Profile = codes "FILE is a game for the interpreter, with --state a saved state, and with --asm a" ∷ codes "game's source in words of CHIP-8." ∷ []
+notes verb.Safe = codes "GAME is a game for the interpreter, and with --asm its source in words of CHIP-8." ∷ []
+notes verb.Certify = codes "GAME is a game for the interpreter, and with --asm its source in words of CHIP-8." ∷ []
+notes _ = []
+
+-- ---- the verbs, in the order of their page
+
 abbrev pub every_verb : List Verb
 every_verb =
     verb.Trace ∷ verb.Play ∷ verb.Debug ∷ verb.Save ∷ verb.Profile ∷ verb.Resume ∷ verb.Demo ∷ verb.Link ∷ verb.Asm ∷ verb.Check ∷ verb.List ∷ verb.Dis ∷ verb.Source ∷ verb.Bounds ∷ verb.Cycles ∷ verb.Timing ∷ verb.Safe ∷ verb.Certify ∷ verb.Help ∷ verb.Version ∷ []

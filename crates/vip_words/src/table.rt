@@ -3,7 +3,7 @@
 ghost use Rattle.std.specs.Prelude.{◌≡◌, ◌≤◌, IsTrue, bytes_eq, find, length, map};
 ghost use Rattle.std.specs.List.{list_all};
 ghost use Rattle.vip_words.specs.Rules.{is_option};
-ghost use Rattle.vip_words.specs.Table.{about, places_of, row, verb_of, with_value};
+ghost use Rattle.vip_words.specs.Table.{about, notes, places_of, row, verb_of, with_value};
 
 /// What the program is asked to do.
 #[derive(Clone, Copy, Drop)]
@@ -128,6 +128,48 @@ impl Verb {
             writes: self.writes(),
             example: self.example(),
             texts: self.texts(),
+        }
+    }
+
+    /// What its page says of the files that it takes, line by line: what is run or judged, and which commands there are.
+    pub fn notes(self) -> &'static [&'static str]
+        ensures { map (λ line. line.now) result.now ≡ notes self }
+    {
+        match self {
+            Verb::Trace | Verb::Play => &[
+                "FILE is a game for the interpreter, with --state a saved state, and with --rom or",
+                "--ram a program for the processor. With --asm it is a source: a game's in words",
+                "of CHIP-8, a program's in words of the processor.",
+            ],
+            Verb::Debug => &[
+                "FILE is a game for the interpreter, with --state a saved state, and with --rom or",
+                "--ram a program for the processor. With --asm it is a source: a game's in words",
+                "of CHIP-8, a program's in words of the processor.",
+                "COMMANDS has one of these a line; A is an address, or with --asm a name:",
+                "  step N     makes N moves",
+                "  to C       goes on to cycle C",
+                "  at A       goes on to where the next instruction is at A",
+                "  watch A N  goes on to where one of N bytes from A on has changed",
+                "  next N     goes on to the N-th next dispatch point",
+                "  break A    goes on to the next dispatch point whose pc is A",
+                "  regs       shows the registers of the processor",
+                "  state      shows the state at the last dispatch point",
+                "  mem A N    shows N bytes from A on",
+                "  dis A N    shows N lines of the disassembly from A on",
+                "  list A N   shows N instructions of the processor from A on",
+                "  screen     shows the screen at the last dispatch point",
+                "  code A N   shows N opcodes of CHIP-8 from A on",
+                "With --rom or --ram there are no dispatch points, and so no next, break, state,",
+                "screen and code.",
+            ],
+            Verb::Save | Verb::Profile => &[
+                "FILE is a game for the interpreter, with --state a saved state, and with --asm a",
+                "game's source in words of CHIP-8.",
+            ],
+            Verb::Safe | Verb::Certify => &[
+                "GAME is a game for the interpreter, and with --asm its source in words of CHIP-8.",
+            ],
+            _ => &[],
         }
     }
 
