@@ -33,7 +33,7 @@ use Rattle.rom_board.proofs.Passed.{NoStop, before_point, no_stop_append, no_sto
 use Rattle.vip_text.specs.Endings.{Ending}
 use Rattle.vip_text.specs.Endings.Ending.{AtLimit}
 use Rattle.vip_text.specs.Screens.{screen_lines}
-use Rattle.vip_text.specs.Traces.{plain, timed, trace_line}
+use Rattle.vip_text.specs.Traces.{trace_line}
 use Rattle.vip_show.specs.Endings.{ending_after}
 use Rattle.vip_words.specs.Spoken.{Spoken}
 use Rattle.vip_words.specs.declared.debug_commands.Command.{Command}
@@ -50,6 +50,7 @@ use Rattle.vip_debug.specs.Code.{clear_byte, code_lines}
 use Rattle.vip_debug.specs.Commands.{came}
 use Rattle.vip_debug.specs.Game.{run_at}
 use Rattle.vip_debug.specs.TargetRun as run
+use Rattle.vip_debug.specs.declared.looks.Looks.{Looks}
 use Rattle.vip_debug.proofs.Reaching.{all_past, at_begin, last_until, with_one}
 use Rattle.vip_verbs.specs.Outcome.{debug_ending, ending_where, run_ending, stopped_by}
 use Rattle.vip_call.specs.Commands.{AllAnswered, Answers, NamesStop, ShowsCode, ahead, found_line, last_met, place_at, screen_text, state_text, stops_by}
@@ -182,7 +183,7 @@ module _
     (over_is :
     is_stop (interpreter_of e) (state (interpreter_of e) s script (moves_until (begun e s script) limit)) ≡ true
     → over ≡ (state (interpreter_of e) s script (moves_until (begun e s script) limit)).cycle)
-    (labels : List (ℕ × List ℕ)) where
+    (looks : Looks) where
   abbrev i : Interpreter
   i = interpreter_of e
 
@@ -321,7 +322,7 @@ module _
     abbrev made : ℕ
     made = moves_until v t
 
-    stops_at : is_stop i (at_state made) ≡ stops_by e labels limit points ending over ending t
+    stops_at : is_stop i (at_state made) ≡ stops_by e looks limit points ending over ending t
     stops_at = by_test (is_stop i (at_state end)) refl
       where
         last : ReachedInTime end
@@ -347,16 +348,16 @@ module _
             let same : made ≡ end = omega (arith, few, all) in
             ap (λ k. is_stop i (at_state k)) same ∙ stop ∙ sym (le-leb over t behind)
 
-        by_test : (stop : Bool) → is_stop i (at_state end) ≡ stop → is_stop i (at_state made) ≡ stops_by e labels limit points ending over ending t
+        by_test : (stop : Bool) → is_stop i (at_state end) ≡ stop → is_stop i (at_state made) ≡ stops_by e looks limit points ending over ending t
         by_test true stop =
             stopped stop (cases_lt t over)
-            ∙ ap (λ z. stops_by e labels limit points ending over z t) (stop_is e s script begins limit late end last stop)
+            ∙ ap (λ z. stops_by e looks limit points ending over z t) (stop_is e s script begins limit late end last stop)
         by_test false runs =
             running runs (cases_lt made end)
-            ∙ ap (λ z. stops_by e labels limit points ending over z t) (sym (runs_out runs))
+            ∙ ap (λ z. stops_by e looks limit points ending over z t) (sym (runs_out runs))
 
     -- so its stop is the run's
-    ends_as : ending_where v made ≡ (if stops_by e labels limit points ending over ending t then ending else AtLimit)
+    ends_as : ending_where v made ≡ (if stops_by e looks limit points ending over ending t then ending else AtLimit)
     ends_as = by_test (is_stop i (at_state made)) refl
       where
         reached_here : ReachedInTime made
@@ -364,7 +365,7 @@ module _
 
         by_test :
             (stop : Bool) → is_stop i (at_state made) ≡ stop
-            → ending_where v made ≡ (if stops_by e labels limit points ending over ending t then ending else AtLimit)
+            → ending_where v made ≡ (if stops_by e looks limit points ending over ending t then ending else AtLimit)
         by_test true stop =
             ap (λ s. if s then stopped_by (stop_by v made) else AtLimit) stop
             ∙ stop_is e s script begins limit late made reached_here stop
@@ -374,7 +375,7 @@ module _
             ∙ ap (λ s. if s then ending else AtLimit) (sym runs ∙ stops_at)
 
     -- and that is the line that is written there
-    names_stop : (a : Arrival) (lines : List (List ℕ)) → a.place.moves ≡ made → NamesStop e labels limit points ending over t (lines_at v a lines)
+    names_stop : (a : Arrival) (lines : List (List ℕ)) → a.place.moves ≡ made → NamesStop e looks limit points ending over t (lines_at v a lines)
     unfolding lines_at
     names_stop a lines is stop =
         ap (λ s. if s then stop_text (stop_by v a.place.moves) ∷ [] else if a.completed then lines else (codes "end" ++ newline) ∷ []) stopped
@@ -399,14 +400,14 @@ module _
     met_here : met_at v (place t) ≡ events_to v t
     met_here = take_all (length (events_by v made)) (events_by v made) (omega arith) ∙ by_is
 
-    last_is : last_met e labels limit points ending over t ≡ option_map (point_of e) (last_dispatch (met_at v (place t)))
+    last_is : last_met e looks limit points ending over t ≡ option_map (point_of e) (last_dispatch (met_at v (place t)))
     last_is =
         ap last_point (filter_points e (λ p. nat_le p.cycle t) (dispatches events))
         ∙ ap (λ bs. last_point (map (point_of e) bs)) (sym (met_is e s script begins limit t behind_start order))
         ∙ last_is_last e (events_to v t)
         ∙ ap (λ es. option_map (point_of e) (last_dispatch es)) (sym met_here)
 
-    ahead_here : ahead e labels limit points ending over t ≡ map (point_of e) (points_ahead v limit (place t))
+    ahead_here : ahead e looks limit points ending over t ≡ map (point_of e) (points_ahead v limit (place t))
     ahead_here =
         filter_points e (λ p. nat_lt t p.cycle) (dispatches events)
         ∙ ap (map (point_of e))
@@ -417,15 +418,15 @@ module _
     -- where the board stands at a point, those of its state
     code_shown :
         (address count : ℕ) (last : Option Machine) → last_dispatch (events_to v t) ≡ last
-        → ShowsCode e labels limit points ending over address count (option_map (point_of e) last) t
-        (code_lines (clear_byte i.rom (at_state made)) labels address count)
+        → ShowsCode e looks limit points ending over address count (option_map (point_of e) last) t
+        (code_lines (clear_byte i.rom (at_state made)) looks.labels address count)
     code_shown address count None is = tt
     code_shown address count (Some b) is = λ here from to.
         let among : Among b (dispatches events) =
         kept (λ c. nat_le c.cycle t) (dispatches events) b (length (dispatches (events_to v t)) - 1)
         (sym (ap (λ bs. slice_get bs (length (dispatches (events_to v t)) - 1)) (met_is e s script begins limit t behind_start order)) ∙ is) in
         let there : at_state made ≡ b = ap (λ c. at_state (moves_until v c)) (sym here) ∙ (found b among).there in
-        ap (λ c. code_lines (clear_byte i.rom c) labels address count) there ∙ code_in_memory e i.rom b labels address count from to
+        ap (λ c. code_lines (clear_byte i.rom c) looks.labels address count) there ∙ code_in_memory e i.rom b looks.labels address count from to
 
   -- ---- a command
 
@@ -435,23 +436,23 @@ module _
     from : (machine_of s).cycle ≤ to
     within : to ≤ limit
     is : place_with v limit c (place t) ≡ place to
-    answers : Answers e labels limit points ending over c t to (pieces_of labels v limit c (place t))
+    answers : Answers e looks limit points ending over c t to (pieces_of looks v limit c (place t))
 
   -- a command that looks for a dispatch point
-  found_here : (b : Machine) → Among b (dispatches events) → seeking_lines v (at_point v limit (Some b)) ≡ line e plain (point_of e b) ∷ []
+  found_here : (b : Machine) → Among b (dispatches events) → seeking_lines looks v (at_point v limit (Some b)) ≡ line e looks.columns (point_of e b) ∷ []
   unfolding lines_at view_at
   found_here b a =
       let f = found b a in
-      ap (λ stop. if stop then stop_text (stop_by v (moves_until v b.cycle)) ∷ [] else trace_line plain (view_at e (at_state (moves_until v b.cycle)))
+      ap (λ stop. if stop then stop_text (stop_by v (moves_until v b.cycle)) ∷ [] else trace_line looks.columns (view_at e (at_state (moves_until v b.cycle)))
       ∷ []) f.runs
-      ∙ ap (λ (c : Machine). trace_line plain (view_at e c) ∷ []) f.there
+      ∙ ap (λ (c : Machine). trace_line looks.columns (view_at e c) ∷ []) f.there
 
   -- or to the end of the run
-  end_here : seeking_lines v (at_point v limit None) ≡ end_line ending ∷ []
+  end_here : seeking_lines looks v (at_point v limit None) ≡ end_line ending ∷ []
   unfolding lines_at
   end_here = by_test (is_stop i (at_state end)) refl
     where
-      by_test : (stop : Bool) → is_stop i (at_state end) ≡ stop → seeking_lines v (at_point v limit None) ≡ end_line ending ∷ []
+      by_test : (stop : Bool) → is_stop i (at_state end) ≡ stop → seeking_lines looks v (at_point v limit None) ≡ end_line ending ∷ []
       by_test true stop =
           ap (λ t. if t then stop_text (stop_by v end) ∷ [] else (codes "end" ++ newline) ∷ []) stop
           ∙ ap (λ z. end_line z ∷ []) (stop_is e s script begins limit late end (last_until e s script begins limit late) stop)
@@ -472,7 +473,7 @@ module _
     seeks :
         (seeking : Seeking) (j : ℕ) (to : Option Machine) → (sought v limit seeking (place t)) ≡ at_point v limit to
         → to ≡ slice_get (points_ahead v limit (place t)) j
-        → sought_point e labels limit points ending over seeking t ≡ option_map (point_of e) to → Comes (command.Seeks seeking) t
+        → sought_point e looks limit points ending over seeking t ≡ option_map (point_of e) to → Comes (command.Seeks seeking) t
     seeks seeking j None goes at is = record {
       to = limit;
       from = late;
@@ -480,9 +481,9 @@ module _
       is = ap (λ (a : Arrival). a.place) goes;
       answers =
           subst
-          (λ p. (limit ≡ place_at e labels limit points ending over t p)
-          × (seeking_lines v (sought v limit seeking (place t)) ≡ found_line e labels limit points ending over p ∷ []))
-          (sym is) (omega (arith, order), ap (seeking_lines v) goes ∙ end_here);
+          (λ p. (limit ≡ place_at e looks limit points ending over t p)
+          × (seeking_lines looks v (sought v limit seeking (place t)) ≡ found_line e looks limit points ending over p ∷ []))
+          (sym is) (omega (arith, order), ap (seeking_lines looks v) goes ∙ end_here);
     }
     seeks seeking j (Some b) goes at is =
         let a : Among b (dispatches events) = dropped b (length (events_by v (moves_until v t))) j events (sym at) in
@@ -493,9 +494,9 @@ module _
           is = ap (λ (a : Arrival). a.place) goes;
           answers =
               subst
-              (λ p. (b.cycle ≡ place_at e labels limit points ending over t p)
-              × (seeking_lines v (sought v limit seeking (place t)) ≡ found_line e labels limit points ending over p ∷ []))
-              (sym is) (refl, ap (seeking_lines v) goes ∙ found_here b a);
+              (λ p. (b.cycle ≡ place_at e looks limit points ending over t p)
+              × (seeking_lines looks v (sought v limit seeking (place t)) ≡ found_line e looks limit points ending over p ∷ []))
+              (sym is) (refl, ap (seeking_lines looks v) goes ∙ found_here b a);
         }
 
     -- a command that runs the board: these are the moves that it makes, and a cycle up to which they are made
@@ -509,7 +510,7 @@ module _
     runs :
         (running : Running) (to : ℕ) → (machine_of s).cycle ≤ to → to ≤ limit → moves_until v t + moves running ≡ moves_until v to
         → (place_with v limit (command.Runs running) (place t) ≡ place to)
-        × NamesStop e labels limit points ending over to (running_lines v limit running (place t))
+        × NamesStop e looks limit points ending over to (running_lines v limit running (place t))
     runs running to from within is =
         let there : moved_on v (moves running) (place t) ≡ place to = moved (moves running) ∙ ap (all_met v) is in
         (there, names_stop to from within (ran v limit running (place t)) _ (ap (λ (p : Place). p.moves) there))
@@ -569,8 +570,8 @@ module _
 
     running_comes :
         (running : Running)
-        → ((to : ℕ) → (t ≤ to) × (to ≤ max t limit) × NamesStop e labels limit points ending over to (running_lines v limit running (place t))
-        → Answers e labels limit points ending over (command.Runs running) t to (running_lines v limit running (place t)))
+        → ((to : ℕ) → (t ≤ to) × (to ≤ max t limit) × NamesStop e looks limit points ending over to (running_lines v limit running (place t))
+        → Answers e looks limit points ending over (command.Runs running) t to (running_lines v limit running (place t)))
         → Comes (command.Runs running) t
     running_comes running said =
         let reached : ReachedInTime (moves_until v t + moves running) =
@@ -607,7 +608,7 @@ module _
           answers = (
             refl,
             subst
-                (λ last. ShowsCode e labels limit points ending over address count last t (told labels v (Code address count) (place t)))
+                (λ last. ShowsCode e looks limit points ending over address count last t (told looks v (Code address count) (place t)))
                 (ap (λ es. option_map (point_of e) (last_dispatch es)) (sym (met_here t behind_start order)) ∙ sym (last_is t behind_start order))
                 (code_shown t behind_start order address count (last_dispatch (events_to v t)) refl),
           );
@@ -626,12 +627,12 @@ module _
           is = refl;
           answers = (
             refl,
-            ap (λ s. s ∷ []) (states (last_dispatch (met_at v (place t))) ∙ ap (state_text e labels limit points ending over) (sym (last_is t behind_start order))),
+            ap (λ s. s ∷ []) (states (last_dispatch (met_at v (place t))) ∙ ap (state_text e looks limit points ending over) (sym (last_is t behind_start order))),
           );
         }
       where
-        states : (last : Option Machine) → option_map_or (trace_line timed) (option_map (view_at e) last) (codes "none" ++ newline)
-            ≡ state_text e labels limit points ending over (option_map (point_of e) last)
+        states : (last : Option Machine) → option_map_or (trace_line (record looks.columns { time = true })) (option_map (view_at e) last) (codes "none" ++ newline)
+            ≡ state_text e looks limit points ending over (option_map (point_of e) last)
         states None = refl
         states (Some b) = refl
     comes (command.Tells Screen) =
@@ -642,12 +643,12 @@ module _
           is = refl;
           answers = (
             refl,
-            ap (λ s. s ∷ []) (screens (last_dispatch (met_at v (place t))) ∙ ap (screen_text e labels limit points ending over) (sym (last_is t behind_start order))),
+            ap (λ s. s ∷ []) (screens (last_dispatch (met_at v (place t))) ∙ ap (screen_text e looks limit points ending over) (sym (last_is t behind_start order))),
           );
         }
       where
         screens : (last : Option Machine) → screen_lines (pixels (rows_of e) (option_map_or (screen_bytes e) last (replicate (screen_size e) 0))) (rows_of e)
-            ≡ screen_text e labels limit points ending over (option_map (point_of e) last)
+            ≡ screen_text e looks limit points ending over (option_map (point_of e) last)
         screens None = ap (λ s. screen_lines s (rows_of e)) (dark (rows_of e) (screen_size e))
         screens (Some b) = refl
 
@@ -655,21 +656,21 @@ module _
 
   answered :
       (commands : List Spoken) (t : ℕ) → (machine_of s).cycle ≤ t → t ≤ limit
-      → AllAnswered e labels limit points ending over (ending_where v (place_after v limit commands (place t)).moves) commands t
-      (written labels v limit commands (place t))
+      → AllAnswered e looks limit points ending over (ending_where v (place_after v limit commands (place t)).moves) commands t
+      (written looks v limit commands (place t))
   answered [] t behind_start order = (refl, ends_as t behind_start order)
   answered (c ∷ commands) t behind_start order =
       let a = comes t behind_start order c.command in
       record {
         place = a.to;
-        here = pieces_of labels v limit c.command (place t);
-        rest = written labels v limit commands (place_with v limit c.command (place t));
+        here = pieces_of looks v limit c.command (place t);
+        rest = written looks v limit commands (place_with v limit c.command (place t));
         split = refl;
         answers = a.answers;
         others =
             subst
-            (λ p. AllAnswered e labels limit points ending over (ending_where v (place_after v limit commands p).moves) commands a.to
-            (written labels v limit commands p))
+            (λ p. AllAnswered e looks limit points ending over (ending_where v (place_after v limit commands p).moves) commands a.to
+            (written looks v limit commands p))
             (sym a.is) (answered commands a.to a.from a.within);
       }
 
@@ -689,11 +690,11 @@ module _
 
   pub answers :
       (commands : List Spoken)
-      → AllAnswered e labels limit points ending over (debug_ending v limit commands) commands (machine_of s).cycle (written labels v limit commands (at_start v))
+      → AllAnswered e looks limit points ending over (debug_ending v limit commands) commands (machine_of s).cycle (written looks v limit commands (at_start v))
   answers commands =
       subst
-      (λ p. AllAnswered e labels limit points ending over (ending_where v (place_after v limit commands p).moves) commands (machine_of s).cycle
-      (written labels v limit commands p))
+      (λ p. AllAnswered e looks limit points ending over (ending_where v (place_after v limit commands p).moves) commands (machine_of s).cycle
+      (written looks v limit commands p))
       (sym starts) (answered commands (machine_of s).cycle (omega arith) late)
 
 -- ---- the last dispatch point of a run up to a cycle

@@ -37,7 +37,7 @@ module _ {A B : Type 0} (f : A → B) where
   start_mosts (start.Made made) = refl
 
   show_mosts : (s : Show A) → mosts (show_files (map_show f s)) ≡ mosts (show_files s)
-  show_mosts (show.Commands file echo) = refl
+  show_mosts (show.Commands file echo columns) = refl
   show_mosts (show.Plain shown) = refl
 
   script_mosts : (k : Option A) → mosts (script_files (option_map f k)) ≡ mosts (script_files k)
@@ -122,11 +122,11 @@ behind_start (start.State file) xs = other_files xs
 behind_start (start.Made made) xs = xs
 
 abbrev fill_show : Show (Unit {0}) → List (List ℕ) → Show (List ℕ)
-fill_show (show.Commands file echo) xs = show.Commands (first_file xs) echo
+fill_show (show.Commands file echo columns) xs = show.Commands (first_file xs) echo columns
 fill_show (show.Plain shown) xs = show.Plain shown
 
 abbrev behind_show : Show (Unit {0}) → List (List ℕ) → List (List ℕ)
-behind_show (show.Commands file echo) xs = other_files xs
+behind_show (show.Commands file echo columns) xs = other_files xs
 behind_show _ xs = xs
 
 abbrev fill_program_show : ProgramShow (Unit {0}) → List (List ℕ) → ProgramShow (List ℕ)
@@ -185,11 +185,11 @@ start_left (start.State file) ns = refl
 start_left (start.Made made) ns = refl
 
 show_filled : (s : Show (List ℕ)) (ns : List (Needed (List ℕ))) → fill_show (map_show bare s) (files_of (show_files s ++ ns)) ≡ s
-show_filled (show.Commands file echo) ns = refl
+show_filled (show.Commands file echo columns) ns = refl
 show_filled (show.Plain shown) ns = refl
 
 show_left : (s : Show (List ℕ)) (ns : List (Needed (List ℕ))) → behind_show (map_show bare s) (files_of (show_files s ++ ns)) ≡ files_of ns
-show_left (show.Commands file echo) ns = refl
+show_left (show.Commands file echo columns) ns = refl
 show_left (show.Plain shown) ns = refl
 
 program_show_filled : (s : ProgramShow (List ℕ)) (ns : List (Needed (List ℕ)))

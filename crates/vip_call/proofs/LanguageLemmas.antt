@@ -77,7 +77,7 @@ module _ (law : EveryRun) (from : FromFile) (frames : EveryFrame) (frames_from :
   shows_as :
       (known : Known) (e : Edition) (s : Start) → Fits e s → (keys : Option (List ℕ)) (limit : ℕ) (shown_as : Show (List ℕ)) (output : Output)
       → ShowComes known e s keys limit shown_as (Given output) → RunIsChip8 e s keys limit
-  shows_as known e s fits keys limit (show.Commands text echo) output comes = of_run e s fits keys limit _ output comes.here
+  shows_as known e s fits keys limit (show.Commands text echo columns) output comes = of_run e s fits keys limit _ output comes.here
   shows_as known e s fits keys limit (show.Plain shown) output comes = of_run e s fits keys limit _ output comes
 
   shows : (loaded : Loaded) (output : Output) → AreGiven (needed loaded) → HasOutcome loaded (Given output) → ShowsChip8 loaded

@@ -327,7 +327,7 @@ module _ (given : RomsGiven) where
 
   show_once : (known : Known) (e : Edition) (s : Start) (keys : Option (List ℕ)) (limit : ℕ) (shown : Show (List ℕ))
       → OneEnd (ShowComes known e s keys limit shown) (ShowComes known e s keys limit shown)
-  show_once known e s keys limit (show.Commands text echo) =
+  show_once known e s keys limit (show.Commands text echo columns) =
       once_behind (CommandsCome Chip8 known.names echo limit text) _ (result_agree (commands_of Chip8 known.names echo limit text) command_refusal)
       (λ commands. run_once e keys _)
   show_once known e s keys limit (show.Plain shown) = run_once e keys _
@@ -443,7 +443,7 @@ module _ (given : RomsGiven) where
 
     show_free : (known : Known) (e : Edition) (s : Start) (keys : Option (List ℕ)) (limit : ℕ) (shown : Show (List ℕ))
         → (shown ≡ show.Plain plain.State → IsSave loaded) → Free loaded (ShowComes known e s keys limit shown)
-    show_free known e s keys limit (show.Commands text echo) saves =
+    show_free known e s keys limit (show.Commands text echo columns) saves =
         free_behind (CommandsCome Chip8 known.names echo limit text) _ (part _ _ command_refusal (λ f x. command_fine f)) (λ commands. run_free e keys _ (λ script. run_ends _))
     show_free known e s keys limit (show.Plain plain.State) saves =
         run_free e keys _ (λ script. state_sound (saves refl) limit (run_ending e s script limit) (pieces_of plain.State e s script limit))

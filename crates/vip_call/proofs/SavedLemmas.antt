@@ -25,6 +25,7 @@ use Rattle.vip_text.specs.StateFile.{shown, IsAccepted}
 use Rattle.vip_text.specs.Traces.{trace_line}
 use Rattle.vip_text.specs.declared.trace.TraceColumns.{TraceColumns}
 use Rattle.vip_debug.specs.Answers.{moves_until, pieces, place_after, at_start, written}
+use Rattle.vip_debug.specs.declared.looks.Looks.{Looks}
 use Rattle.vip_debug.specs.Fold.{echoed}
 use Rattle.vip_debug.specs.Behind.{AnswersAs, GoesOnBehind}
 use Rattle.vip_words.specs.Spoken.{Spoken}
@@ -178,24 +179,24 @@ module _ (joins : SavedJoins) (commands_behind : GoesOnBehind) where
             j.ending
 
         answers :
-            (labels : List (ℕ × List ℕ)) (echo : Option (List ℕ)) (commands : List Spoken)
+            (looks : Looks) (echo : Option (List ℕ)) (commands : List Spoken)
             → let to : Spoken = record { command = Runs (To t); echo = echo } in
             ran later
-            (written labels (begun e s other) (limit_from s later) (to ∷ commands) (at_start (begun e s other)))
+            (written looks (begun e s other) (limit_from s later) (to ∷ commands) (at_start (begun e s other)))
             (ending_where (begun e s other) (place_after (begun e s other) (limit_from s later) (to ∷ commands) (at_start (begun e s other))).moves)
             ≡ ran later
-            (written labels (begun e s other) (limit_from s later) (to ∷ []) (at_start (begun e s other))
-            ++ written labels (begun e (Saved file) other) (limit_from (Saved file) later) commands (at_start (begun e (Saved file) other)))
+            (written looks (begun e s other) (limit_from s later) (to ∷ []) (at_start (begun e s other))
+            ++ written looks (begun e (Saved file) other) (limit_from (Saved file) later) commands (at_start (begun e (Saved file) other)))
             (ending_where (begun e (Saved file) other)
             (place_after (begun e (Saved file) other) (limit_from (Saved file) later) commands (at_start (begun e (Saved file) other))).moves)
-        answers labels echo commands =
+        answers looks echo commands =
             subst₂
-            (λ last last'. ran later (written labels v last (to ∷ commands) (at_start v)) (ending_where v (place_after v last (to ∷ commands) (at_start v)).moves)
-            ≡ ran later (written labels v last (to ∷ []) (at_start v) ++ written labels u last' commands (at_start u))
+            (λ last last'. ran later (written looks v last (to ∷ commands) (at_start v)) (ending_where v (place_after v last (to ∷ commands) (at_start v)).moves)
+            ≡ ran later (written looks v last (to ∷ []) (at_start v) ++ written looks u last' commands (at_start u))
             (ending_where u (place_after u last' commands (at_start u)).moves))
             (sym limit_is) (sym limit_there)
             (ap₂ (ran later)
-            (ap (λ ps. first ++ ps) a.pieces ∙ ap (λ ps. ps ++ written labels u later commands (at_start u)) (sym (append-nil first)))
+            (ap (λ ps. first ++ ps) a.pieces ∙ ap (λ ps. ps ++ written looks u later commands (at_start u)) (sym (append-nil first)))
             (ap₂ (λ (b : Machine) stop. if is_stop (interpreter_of e) b then stopped_by stop else AtLimit) a.machine a.stop))
           where
             to : Spoken
@@ -208,7 +209,7 @@ module _ (joins : SavedJoins) (commands_behind : GoesOnBehind) where
             u = begun e (Saved file) other
 
             first : List (List ℕ)
-            first = echoed to (pieces labels v later to.command (at_start v))
+            first = echoed to (pieces looks v later to.command (at_start v))
 
             early : (machine_of s).cycle ≤ t
             early = starts_early e s other t (shown file) first_last refl
@@ -222,10 +223,10 @@ module _ (joins : SavedJoins) (commands_behind : GoesOnBehind) where
             found : state_after v (moves_until v t) ≡ shown file
             found = found_point e s other (begins-running e s fits) t (shown file) early first_last refl
 
-            a : AnswersAs labels v u later t commands
+            a : AnswersAs looks v u later t commands
             a =
                 commands_behind e s fits other other t later early behind
-                (ap (is_dispatch (interpreter_of e)) found ∙ file_dispatches e file x.accepted) file (sym found) (λ c l k. refl) labels commands
+                (ap (is_dispatch (interpreter_of e)) found ∙ file_dispatches e file x.accepted) file (sym found) (λ c l k. refl) looks commands
 
   comes_so :
       (e : Edition) (file : List ℕ) → IsAccepted e file → (other : Option (List ℕ)) (later : ℕ) (shown_as : Show (List ℕ)) (o : Outcome)

@@ -20,6 +20,7 @@ use Rattle.vip_relation.specs.State.Start.{Reset, Saved}
 use Rattle.vip_relation.proofs.Beginning.{begins-running}
 use Rattle.vip_relation.proofs.Past.{state}
 use Rattle.vip_debug.specs.Answers.{moves_until, at_start, written}
+use Rattle.vip_debug.specs.declared.looks.Looks.{Looks}
 use Rattle.vip_debug.proofs.Reaching.{last_until}
 use Rattle.vip_text.specs.Endings.{Ending}
 use Rattle.vip_text.specs.StateFile.{shown}
@@ -41,7 +42,7 @@ use Rattle.vip_tools.specs.Report.{end_report}
 use Rattle.vip_tools.specs.Status.{end_status}
 use Rattle.vip_tools.proofs.JudgedLemmas.{same_value}
 use Rattle.vip_tools.specs.Code.{Known}
-use Rattle.vip_verbs.specs.Outcome.{known_in, HasOutcome, RunTo, ShowComes, debug_ending, events_in, events_shown, limit_from, ran, ran_with, run_ending, run_of, saved_pieces}
+use Rattle.vip_verbs.specs.Outcome.{known_in, HasOutcome, RunTo, ShowComes, debug_ending, events_in, events_shown, limit_from, looks_of, ran, ran_with, run_ending, run_of, saved_pieces}
 use Rattle.vip_call.specs.Commands.{AllAnswered}
 use Rattle.vip_call.specs.Transcribed.{IsRun, IsShown, IsStateOf, LacksPoint, Transcribed, Transcribes, all_points, first_cycle, shown_from}
 use Rattle.vip_call.specs.Transcript.{GoesOn, Point, Shows, last_point, profile_of, summary_text, trace_text}
@@ -135,20 +136,20 @@ module _ (every : EveryRun) (from : FromAccepted) (time : EveryTime) (time_from 
 
     -- the answers of the debugger's commands
     answered :
-        (labels : List (ℕ × List ℕ)) (script : List KeyEvent) (commands : List Spoken)
-        → AllAnswered e labels (max limit (first_cycle e s)) (all_points e s (points_shown e s script limit)) (run_ending e s script limit) (over script)
+        (looks : Looks) (script : List KeyEvent) (commands : List Spoken)
+        → AllAnswered e looks (max limit (first_cycle e s)) (all_points e s (points_shown e s script limit)) (run_ending e s script limit) (over script)
         (debug_ending (begun e s script) (limit_from s limit) commands) commands (first_cycle e s)
-        (written labels (begun e s script) (limit_from s limit) commands (at_start (begun e s script)))
-    answered labels script commands =
-        subst (λ t. AllAnswered e labels last (all_points e s (points_shown e s script limit)) (run_ending e s script limit) (over script) told commands t pieces)
+        (written looks (begun e s script) (limit_from s limit) commands (at_start (begun e s script)))
+    answered looks script commands =
+        subst (λ t. AllAnswered e looks last (all_points e s (points_shown e s script limit)) (run_ending e s script limit) (over script) told commands t pieces)
         (cycle_is e s)
-        (subst (λ t. AllAnswered e labels t (all_points e s (points_shown e s script limit)) (run_ending e s script limit) (over script) told commands
+        (subst (λ t. AllAnswered e looks t (all_points e s (points_shown e s script limit)) (run_ending e s script limit) (over script) told commands
         (machine_of s).cycle pieces) (limit_is s limit)
-        (subst (λ ps. AllAnswered e labels to ps (run_ending e s script limit) (over script) told commands (machine_of s).cycle pieces)
+        (subst (λ ps. AllAnswered e looks to ps (run_ending e s script limit) (over script) told commands (machine_of s).cycle pieces)
         (ap (points_of e) (same_events e s script limit) ∙ all_are e s script limit)
-        (subst (λ z. AllAnswered e labels to (points_of e (events_in e s script to)) z (over script) told commands (machine_of s).cycle pieces)
+        (subst (λ z. AllAnswered e looks to (points_of e (events_in e s script to)) z (over script) told commands (machine_of s).cycle pieces)
         (same_ending e s script limit)
-        (answers e s script begins to late (over script) over_is labels commands))))
+        (answers e s script begins to late (over script) over_is looks commands))))
       where
         begins : is_stop (interpreter_of e) (machine_of s) ≡ false
         begins = begins-running e s fits
@@ -166,7 +167,7 @@ module _ (every : EveryRun) (from : FromAccepted) (time : EveryTime) (time_from 
         told = debug_ending (begun e s script) to commands
 
         pieces : List (List ℕ)
-        pieces = written labels (begun e s script) to commands (at_start (begun e s script))
+        pieces = written looks (begun e s script) to commands (at_start (begun e s script))
 
         limit_is : (s : Start) (limit : ℕ) → limit_from s limit ≡ max limit (first_cycle e s)
         limit_is (Reset game) limit = omega arith
@@ -258,9 +259,9 @@ module _ (every : EveryRun) (from : FromAccepted) (time : EveryTime) (time_from 
   transcribed_as known e s fits keys limit few (show.Plain plain.Pictures) output comes =
       transcribed_run known e s fits keys limit (show.Plain plain.Pictures) output _ _
       (λ script. (timed_pictures time time_from e s fits script limit, refl)) comes
-  transcribed_as known e s fits keys limit few (show.Commands text echo) output comes =
-      transcribed_run known e s fits keys limit (show.Commands text echo) output _ _
-      (λ script. rw comes.gives (answered e s fits limit known.labels script comes.value)) comes.here
+  transcribed_as known e s fits keys limit few (show.Commands text echo columns) output comes =
+      transcribed_run known e s fits keys limit (show.Commands text echo columns) output _ _
+      (λ script. rw comes.gives (answered e s fits limit (looks_of known columns) script comes.value)) comes.here
   transcribed_as known e s fits keys limit few (show.Plain plain.State) output comes =
       transcribed_state known e s fits keys limit few output comes.value comes.gives (saved_file e (events_in e s comes.value limit)) refl comes.here.here
   transcribed_as known e s fits keys limit few (show.Plain plain.Profile) output comes =

@@ -10,7 +10,6 @@ use Rattle.vip_byte.specs.Text.{newline}
 use Rattle.vip_text.specs.Endings.{Ending}
 use Rattle.vip_text.specs.Endings.Ending.{AtLimit, AtStop}
 use Rattle.vip_text.specs.Screens.{screen_lines}
-use Rattle.vip_text.specs.Traces.{plain, timed}
 use Rattle.std.specs.Option.{option_to_list}
 use Rattle.vip_words.specs.Spoken.{Spoken}
 use Rattle.vip_words.specs.declared.debug_commands.Command.{Command}
@@ -20,10 +19,11 @@ use Rattle.vip_words.specs.declared.debug_commands.Seeking.{Seeking}
 use Rattle.vip_words.specs.declared.debug_commands.Seeking.TheVariants.{Next, Break}
 use Rattle.vip_words.specs.declared.debug_commands.Telling.TheVariants.{Code, Screen, State}
 use Rattle.vip_debug.specs.Code.{code_lines}
+use Rattle.vip_debug.specs.declared.looks.Looks.{Looks}
 use Rattle.vip_call.specs.Transcript.{Point, end_line, last_point, line, screen}
 
--- of the points of a run up to a limit, which ends so in cycle `over`; lines of code have these labels
-module _ (e : Edition) (labels : List (ℕ × List ℕ)) (limit : ℕ) (points : List Point) (ending : Ending) (over : ℕ) where
+-- of the points of a run up to a limit, which ends so in cycle `over`; they are shown so
+module _ (e : Edition) (looks : Looks) (limit : ℕ) (points : List Point) (ending : Ending) (over : ℕ) where
   -- the last point met, the points ahead, and whether the stop is met
   abbrev pub last_met : ℕ → Option Point
   last_met t = last_point (filter (λ p. nat_le p.cycle t) points)
@@ -47,12 +47,12 @@ module _ (e : Edition) (labels : List (ℕ × List ℕ)) (limit : ℕ) (points :
 
   abbrev pub found_line : Option Point → List ℕ
   found_line None = end_line ending
-  found_line (Some p) = line e plain p
+  found_line (Some p) = line e looks.columns p
 
   -- `state` and `screen`, of the last point met
   abbrev pub state_text : Option Point → List ℕ
   state_text None = codes "none" ++ newline
-  state_text (Some p) = line e timed p
+  state_text (Some p) = line e (record looks.columns { time = true }) p
 
   abbrev pub screen_text : Option Point → List ℕ
   screen_text None = screen_lines empty (rows_of e)
@@ -62,7 +62,7 @@ module _ (e : Edition) (labels : List (ℕ × List ℕ)) (limit : ℕ) (points :
   abbrev pub ShowsCode : ℕ → ℕ → Option Point → ℕ → List (List ℕ) → Type 0
   ShowsCode address count None t pieces = Unit {0}
   ShowsCode address count (Some p) t pieces =
-      p.cycle ≡ t → memory_start ≤ address → address + 2 * count ≤ memory_end e → pieces ≡ code_lines (memory_byte p.state) labels address count
+      p.cycle ≡ t → memory_start ≤ address → address + 2 * count ≤ memory_end e → pieces ≡ code_lines (memory_byte p.state) looks.labels address count
 
   -- a command that runs the board names the stop, where that is met
   abbrev pub NamesStop : ℕ → List (List ℕ) → Type 0

@@ -20,6 +20,7 @@ use Rattle.vip_words.specs.declared.request.Request.TheVariants.{Run}
 use Rattle.vip_words.specs.declared.request.Show.{Show}
 use Rattle.vip_words.specs.declared.request.Show.TheVariants.{Plain}
 use Rattle.vip_words.specs.declared.request.Start.TheVariants as beginning
+use Rattle.vip_debug.specs.declared.looks.Looks.{Looks}
 use Rattle.vip_verbs.specs.Outcome.{HasOutcome, OfRun, ShowComes, debugged, events_in, shown_by}
 
 -- one go comes to what came first and then to the rest, and it ends as the rest does
@@ -38,10 +39,10 @@ pub record GoesOn (e : Edition) (s : Start) (file : List ℕ) (script : List Key
   pub pictures : IsJoined (shown_by Pictures e s script (shown file).cycle) (shown_by Pictures e (Saved file) script limit) (shown_by Pictures e s script limit)
   pub state : shown_by State e s script limit ≡ shown_by State e (Saved file) script limit
   pub answers :
-      (labels : List (ℕ × List ℕ)) (echo : Option (List ℕ)) (commands : List Spoken)
+      (looks : Looks) (echo : Option (List ℕ)) (commands : List Spoken)
       → let to : Spoken = record { command = Runs (To (shown file).cycle); echo = echo } in
-      IsJoined (debugged labels (to ∷ []) e s script limit) (debugged labels commands e (Saved file) script limit)
-      (debugged labels (to ∷ commands) e s script limit)
+      IsJoined (debugged looks (to ∷ []) e s script limit) (debugged looks commands e (Saved file) script limit)
+      (debugged looks (to ∷ commands) e s script limit)
 
 -- The file is accepted, and shows the machine state at the last dispatch point of the run up to its limit. Under every script that holds the same keys
 -- before that point's cycle, and up to every limit from this cycle on, the run goes on as the one from the file. No request for that is refused as one of a

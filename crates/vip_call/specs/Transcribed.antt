@@ -12,6 +12,7 @@ use Rattle.vip_text.specs.Endings.{Ending}
 use Rattle.vip_text.specs.StateFile.{bytes_at, edition_byte, IsAccepted}
 use Rattle.vip_relation.specs.State.{Start}
 use Rattle.vip_relation.specs.State.Start.{Reset, Saved}
+use Rattle.vip_debug.specs.declared.looks.Looks.{Looks}
 use Rattle.vip_words.specs.DebugGrammar.{commands_of}
 use Rattle.vip_words.specs.Spoken.{Spoken}
 use Rattle.vip_words.specs.declared.debug_commands.CommandFault.{CommandFault}
@@ -30,7 +31,7 @@ use Rattle.vip_tools.specs.Demo.{made_game}
 use Rattle.vip_tools.specs.Files.{Loaded}
 use Rattle.vip_tools.specs.Judged.{Of}
 use Rattle.vip_tools.specs.Outcome.{script_in}
-use Rattle.vip_verbs.specs.Outcome.{known_in}
+use Rattle.vip_verbs.specs.Outcome.{known_in, looks_of}
 use Rattle.vip_call.specs.Commands.{AllAnswered}
 use Rattle.vip_call.specs.Transcript.{Begins, GoesOn, Point, Shows, ShowsPictures, last_point, profile_of, summary_text, trace_text}
 
@@ -97,10 +98,10 @@ module _ (e : Edition) (s : Start) (points : List Point) where
   all_points = first_points e s ++ points
 
   -- The commands of the debugger, where they have no fault. Where the limit is before the start, it stands there.
-  abbrev pub Debugged : Known → ℕ → Ending → ℕ → Ending → Result (List Spoken) CommandFault → List (List ℕ) → Type 0
-  Debugged known limit ending over reported (Ok commands) pieces =
-      AllAnswered e known.labels (max limit (first_cycle e s)) all_points ending over reported commands (first_cycle e s) pieces
-  Debugged known limit ending over reported (Err fault) pieces = ⊥
+  abbrev pub Debugged : Looks → ℕ → Ending → ℕ → Ending → Result (List Spoken) CommandFault → List (List ℕ) → Type 0
+  Debugged looks limit ending over reported (Ok commands) pieces =
+      AllAnswered e looks (max limit (first_cycle e s)) all_points ending over reported commands (first_cycle e s) pieces
+  Debugged looks limit ending over reported (Err fault) pieces = ⊥
 
   -- A run up to a limit, of whose code this is known, with these points behind its start, which is over so in cycle `over`, is shown so: these pieces are
   -- written, and this end is reported.
@@ -108,8 +109,8 @@ module _ (e : Edition) (s : Start) (points : List Point) where
   IsShown known limit run ending over reported (Plain (Trace columns)) pieces =
       (pieces ≡ trace_text e columns points (last_point all_points)) × (reported ≡ ending)
   IsShown known limit run ending over reported (Plain Pictures) pieces = ShowsPictures e run pieces × (reported ≡ ending)
-  IsShown known limit run ending over reported (Commands text echo) pieces =
-      Debugged known limit ending over reported (commands_of Chip8 known.names echo limit text) pieces
+  IsShown known limit run ending over reported (Commands text echo columns) pieces =
+      Debugged (looks_of known columns) limit ending over reported (commands_of Chip8 known.names echo limit text) pieces
   IsShown known limit run ending over reported (Plain State) pieces = IsStateOf e (last_point all_points) pieces × (reported ≡ ending)
   IsShown known limit run ending over reported (Plain Profile) pieces = (pieces ≡ profile_of e all_points) × (reported ≡ ending)
   IsShown known limit run ending over reported (Plain (Summary number)) pieces =

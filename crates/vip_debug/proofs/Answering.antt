@@ -6,7 +6,8 @@ use Rattle.chip8_lang.specs.declared.view.StopRecord.{StopRecord}
 use Rattle.chip8_lang.specs.Events.{is_stop}
 use Rattle.chip8_lang.specs.View.{view_at}
 use Rattle.vip_byte.specs.Text.{newline}
-use Rattle.vip_text.specs.Traces.{plain, trace_line}
+use Rattle.vip_text.specs.Traces.{trace_line}
+use Rattle.vip_text.specs.declared.trace.TraceColumns.{TraceColumns}
 use Rattle.vip_relation.specs.State.{VipState, interpreter, events_to, state_after}
 use Rattle.vip_relation.specs.Follows.{Follows, last_view, last_screen}
 use Rattle.vip_relation.specs.Meets.{IsSame}
@@ -16,29 +17,30 @@ use Rattle.vip_words.specs.declared.debug_commands.Telling.TheVariants.{State, S
 use Rattle.vip_debug.specs.BoardParts.{clear_reads}
 use Rattle.vip_debug.specs.Code.{clear_byte, code_lines}
 use Rattle.vip_debug.specs.Shown.{state_line, screen_text}
+use Rattle.vip_debug.specs.declared.looks.Looks.{Looks}
 use Rattle.vip_debug.specs.Answers.{begun, Place, place_of, Arrival, stop_by, stop_text, lines_at, told, StandsAt}
 use Rattle.vip_debug.proofs.Places.{begun-same, state-same}
 
 -- ---- what is told of the events met
 
-module _ (labels : List (ℕ × List ℕ)) (v : VipState) (f : Follows v) where
-  pub state-told : state_line v.last ∷ [] ≡ told labels (begun v) State (place_of v)
+module _ (looks : Looks) (v : VipState) (f : Follows v) where
+  pub state-told : state_line looks.columns v.last ∷ [] ≡ told looks (begun v) State (place_of v)
   state-told =
-      ap (λ last. state_line last ∷ []) (f.last ∙ ap (λ (b : Machine). last_view v.edition (take v.met (events_to v b.cycle))) f.machine)
+      ap (λ last. state_line looks.columns last ∷ []) (f.last ∙ ap (λ (b : Machine). last_view v.edition (take v.met (events_to v b.cycle))) f.machine)
 
-  pub screen-told : screen_text v.edition v.shown ∷ [] ≡ told labels (begun v) Screen (place_of v)
+  pub screen-told : screen_text v.edition v.shown ∷ [] ≡ told looks (begun v) Screen (place_of v)
   screen-told =
       ap (λ bytes. screen_text v.edition bytes ∷ []) (f.shown ∙ ap (λ (b : Machine). last_screen v.edition (take v.met (events_to v b.cycle))) f.machine)
 
 -- ---- opcodes
 
-module _ (labels : List (ℕ × List ℕ)) (v : VipState) (f : Follows v) where
+module _ (looks : Looks) (v : VipState) (f : Follows v) where
   pub code-told : (address count : ℕ)
-      → code_lines (clear_reads (record { ram = v.board.machine.ram; rom = v.board.rom; latch = v.board.machine.latch })) labels address count
-      ≡ told labels (begun v) (Code address count) (place_of v)
+      → code_lines (clear_reads (record { ram = v.board.machine.ram; rom = v.board.rom; latch = v.board.machine.latch })) looks.labels address count
+      ≡ told looks (begun v) (Code address count) (place_of v)
   code-told address count =
-      ap (λ rom. code_lines (clear_byte rom v.board.machine) labels address count) f.rom
-      ∙ ap (λ (b : Machine). code_lines (clear_byte (interpreter v).rom b) labels address count) f.machine
+      ap (λ rom. code_lines (clear_byte rom v.board.machine) looks.labels address count) f.rom
+      ∙ ap (λ (b : Machine). code_lines (clear_byte (interpreter v).rom b) looks.labels address count) f.machine
 
 -- ---- where the board stands
 
@@ -149,9 +151,10 @@ module _ (old v : VipState) (g : Follows v) (a : Arrival) (completed : Bool) (sa
     writes-end is goes = lines-end v g completed lines is goes ∙ arrived
 
   -- the record of the dispatch point
-  pub point-lines : Follows old → trace_line plain (view_at v.edition v.board.machine) ∷ [] ≡ trace_line plain
+  pub point-lines : (columns : TraceColumns) → Follows old
+      → trace_line columns (view_at v.edition v.board.machine) ∷ [] ≡ trace_line columns
       (view_at (begun old).edition (state_after (begun old) a.place.moves)) ∷ []
-  point-lines f =
-      ap (λ e. trace_line plain (view_at e v.board.machine) ∷ []) same.edition
-      ∙ ap (λ b. trace_line plain (view_at old.edition b) ∷ [])
+  point-lines columns f =
+      ap (λ e. trace_line columns (view_at e v.board.machine) ∷ []) same.edition
+      ∙ ap (λ b. trace_line columns (view_at old.edition b) ∷ [])
       (g.machine ∙ state-same old v f g same v.moves ∙ ap (λ (p : Place). state_after old p.moves) place)

@@ -29,7 +29,7 @@ use Rattle.vip_relation.specs.declared.point.Point.{Point}
 use Rattle.vip_relation.specs.declared.point.Point.TheVariants.{Dispatch as DispatchPoint, Stop as StopPoint, Other as OtherPoint}
 use Rattle.vip_relation.proofs.Beginning.{begins-running}
 use Rattle.vip_relation.proofs.Past.{state, past, past-first, pictures, point, earlier, before}
-use Rattle.vip_text.specs.Traces.{plain, trace_line}
+use Rattle.vip_text.specs.Traces.{trace_line}
 use Rattle.vip_words.specs.Spoken.{Spoken}
 use Rattle.vip_words.specs.declared.debug_commands.Command.{Command}
 use Rattle.vip_words.specs.declared.debug_commands.Command.TheVariants.{Runs, Shows, Seeks, Tells}
@@ -40,6 +40,7 @@ use Rattle.vip_words.specs.declared.debug_commands.Seeking.TheVariants.{Next, Br
 use Rattle.vip_words.specs.declared.debug_commands.Telling.{Telling}
 use Rattle.vip_words.specs.declared.debug_commands.Telling.TheVariants.{State, Screen, Code}
 use Rattle.vip_debug.specs.Answered.{completed_lines, shown}
+use Rattle.vip_debug.specs.declared.looks.Looks.{Looks}
 use Rattle.vip_debug.specs.Answers.{Arrival, Place, all_met, at_point, at_start, events_by, has_pc, lines_at, met_at, moved_on, moves_until, pieces, place_after, place_with, points_ahead, ran, running_lines, seeking_lines, sought, stop_by, stop_text, told, written}
 use Rattle.vip_debug.specs.Behind.{AnswersAs, GoesOnBehind, HoldSame}
 use Rattle.vip_debug.specs.Commands.{Came, came}
@@ -259,7 +260,7 @@ module _ (e : Edition) (s : Start) (script script' : List KeyEvent) (begins : is
     (late : (machine_of s).cycle ≤ limit) (comes : By e s script begins limit n)
     (is : machine_of (Saved file) ≡ state (interpreter_of e) s script n)
     (dispatch : is_dispatch (interpreter_of e) (state (interpreter_of e) s script n) ≡ true)
-    (keys : HoldSame (machine_of (Saved file)).cycle script script') (labels : List (ℕ × List ℕ)) where
+    (keys : HoldSame (machine_of (Saved file)).cycle script script') (looks : Looks) where
   abbrev i : Interpreter
   i = interpreter_of e
 
@@ -401,7 +402,7 @@ module _ (e : Edition) (s : Start) (script script' : List KeyEvent) (begins : is
 
   -- its pieces are the same, and so are the places
   record SamePieces (c : Command) (p q : Place) : Type 0 where
-    pub lines : pieces labels v limit c p ≡ pieces labels u limit c q
+    pub lines : pieces looks v limit c p ≡ pieces looks u limit c q
     pub places : Both (place_with v limit c p) (place_with u limit c q)
 
   module _ (j : ℕ) (reached : By e s script begins limit (j + n)) where
@@ -472,10 +473,10 @@ module _ (e : Edition) (s : Start) (script script' : List KeyEvent) (begins : is
         (point_both (find (has_pc u pc) (points_ahead u limit q))
         (λ b found. late_ahead _ b (sym (find_at (has_pc u pc) (points_ahead u limit q)) ∙ found)))
 
-    seeking_same : (seeking : Seeking) → seeking_lines v (sought v limit seeking p) ≡ seeking_lines u (sought u limit seeking q)
+    seeking_same : (seeking : Seeking) → seeking_lines looks v (sought v limit seeking p) ≡ seeking_lines looks u (sought u limit seeking q)
     seeking_same seeking =
         lines_on (sought v limit seeking p) (sought u limit seeking q) (sought_both seeking) (by_command (Seeks seeking)) _ _
-        (ap (λ b. trace_line plain (view_at e b) ∷ [])
+        (ap (λ b. trace_line looks.columns (view_at e b) ∷ [])
         (machine_there (sought v limit seeking p) (sought u limit seeking q) (sought_both seeking) (by_command (Seeks seeking))))
 
     -- what was met
@@ -483,22 +484,22 @@ module _ (e : Edition) (s : Start) (script script' : List KeyEvent) (begins : is
     met_on =
         ap last_dispatch (take-length (events_by v (j + n))) ∙ last_on j reached ∙ ap last_dispatch (sym (take-length (events_by u j)))
 
-    told_same : (telling : Telling) → told labels v telling p ≡ told labels u telling q
-    told_same State = ap (λ last. state_line (option_map (view_at e) last) ∷ []) met_on
+    told_same : (telling : Telling) → told looks v telling p ≡ told looks u telling q
+    told_same State = ap (λ last. state_line looks.columns (option_map (view_at e) last) ∷ []) met_on
     told_same Screen = ap (λ last. screen_text e (option_map_or (screen_bytes e) last (replicate (screen_size e) 0)) ∷ []) met_on
-    told_same (Code address count) = ap (λ b. code_lines (clear_byte i.rom b) labels address count) (state_on j)
+    told_same (Code address count) = ap (λ b. code_lines (clear_byte i.rom b) looks.labels address count) (state_on j)
 
     one_same : (c : Command) → SamePieces c p q
     one_same (Runs running) = record { lines = running_same running; places = (ran_both running).places }
     one_same (Shows showing) =
-        record { lines = ap (λ b. shown labels i.rom b showing) (state_on j); places = record { j = j; left = refl; right = refl } }
+        record { lines = ap (λ b. shown looks.labels i.rom b showing) (state_on j); places = record { j = j; left = refl; right = refl } }
     one_same (Seeks seeking) = record { lines = seeking_same seeking; places = (sought_both seeking).places }
     one_same (Tells telling) = record { lines = told_same telling; places = record { j = j; left = refl; right = refl } }
 
   -- ---- all commands
 
   record SameAnswers (commands : List Spoken) (p q : Place) : Type 0 where
-    pub lines : written labels v limit commands p ≡ written labels u limit commands q
+    pub lines : written looks v limit commands p ≡ written looks u limit commands q
     pub places : Both (place_after v limit commands p) (place_after u limit commands q)
     pub reached : By e s script begins limit (place_after v limit commands p).moves
 
@@ -513,8 +514,8 @@ module _ (e : Edition) (s : Start) (script script' : List KeyEvent) (begins : is
       (with_one e s script begins limit late c.command p reached) in
       record {
         lines =
-            ap (λ ps. echoed c ps ++ written labels v limit commands (place_with v limit c.command p)) one.lines
-            ∙ ap (λ ps. echoed c (pieces labels u limit c.command q) ++ ps) rest.lines;
+            ap (λ ps. echoed c ps ++ written looks v limit commands (place_with v limit c.command p)) one.lines
+            ∙ ap (λ ps. echoed c (pieces looks u limit c.command q) ++ ps) rest.lines;
         places = rest.places;
         reached = rest.reached;
       }
@@ -544,7 +545,7 @@ module _ (e : Edition) (s : Start) (script script' : List KeyEvent) (begins : is
       right = start_met e (Saved file) script' runs_on limit (reached_on 0 (subst (By e s script begins limit) (sym (zero_sum n)) comes));
     }
 
-    pub answers : (commands : List Spoken) → AnswersAs labels v u limit cycle commands
+    pub answers : (commands : List Spoken) → AnswersAs looks v u limit cycle commands
     answers commands =
         let all = all_same commands came_to (at_start u) begins_both (subst (λ (p : Place). By e s script begins limit p.moves) (sym left_by) comes) in
         let a : Arrival = record { place = place_after v limit commands came_to; completed = true } in
@@ -553,8 +554,8 @@ module _ (e : Edition) (s : Start) (script script' : List KeyEvent) (begins : is
         record { pieces = all.lines; machine = machine_there a b arrive all.reached; stop = stop_there a b arrive all.reached }
 
 pub goes-on-behind : GoesOnBehind
-goes-on-behind e s fits script script' cycle limit late order dispatch file is keys labels commands =
+goes-on-behind e s fits script script' cycle limit late order dispatch file is keys looks commands =
     let begins = begins-running e s fits in
     let last = last_until e s script begins cycle late in
     answers e s script script' begins file (moves_until (begun e s script) cycle) limit (omega (arith, late, order))
-    (record { within = omega (arith, last.within, order); runs = last.runs }) is dispatch keys labels cycle refl order commands
+    (record { within = omega (arith, last.within, order); runs = last.runs }) is dispatch keys looks cycle refl order commands

@@ -8,7 +8,7 @@ use Rattle.chip8_lang.specs.Events.{Event, is_stop}
 use Rattle.chip8_lang.specs.View.{view_at}
 use Rattle.vip_text.specs.Stops.{stop_line}
 use Rattle.vip_byte.specs.Text.{newline}
-use Rattle.vip_text.specs.Traces.{plain, trace_line}
+use Rattle.vip_text.specs.Traces.{trace_line}
 use Rattle.vip_outside.specs.Sink.{SinkMeaning}
 use Rattle.vip_outside.specs.Pieces.{PutsAll, FailsWithin}
 use Rattle.vip_relation.specs.State.{VipState, first_events, interpreter, events_to, begun as begun_from, state_after}
@@ -30,6 +30,7 @@ use Rattle.vip_words.specs.declared.debug_commands.Seeking.{Seeking}
 use Rattle.vip_words.specs.declared.debug_commands.Seeking.TheVariants.{Next, Break}
 use Rattle.vip_words.specs.declared.debug_commands.Telling.{Telling}
 use Rattle.vip_words.specs.declared.debug_commands.Telling.TheVariants.{State, Screen, Code}
+use Rattle.vip_debug.specs.declared.looks.Looks.{Looks}
 use Rattle.vip_debug.specs.declared.run.DebugEnd.{DebugEnd}
 use Rattle.vip_debug.specs.declared.run.DebugEnd.TheVariants.{Done, Stopped, WriteFault}
 
@@ -119,21 +120,21 @@ running_lines v limit running p =
     let r = run_at v p.moves in lines_at v (ran v limit running p) (completed_lines r running (came r limit running).moves)
 
 -- of a dispatch point its record
-abbrev pub seeking_lines : VipState → Arrival → List (List ℕ)
-seeking_lines v a = lines_at v a (trace_line plain (view_at v.edition (state_after v a.place.moves)) ∷ [])
+abbrev pub seeking_lines : Looks → VipState → Arrival → List (List ℕ)
+seeking_lines looks v a = lines_at v a (trace_line looks.columns (view_at v.edition (state_after v a.place.moves)) ∷ [])
 
 -- what was met of the language, or opcodes in words; a screen is one piece
-abbrev pub told : List (ℕ × List ℕ) → VipState → Telling → Place → List (List ℕ)
-told labels v State p = state_line (last_view v.edition (met_at v p)) ∷ []
-told labels v Screen p = screen_text v.edition (last_screen v.edition (met_at v p)) ∷ []
-told labels v (Code address count) p = code_lines (clear_byte (interpreter v).rom (state_after v p.moves)) labels address count
+abbrev pub told : Looks → VipState → Telling → Place → List (List ℕ)
+told looks v State p = state_line looks.columns (last_view v.edition (met_at v p)) ∷ []
+told looks v Screen p = screen_text v.edition (last_screen v.edition (met_at v p)) ∷ []
+told looks v (Code address count) p = code_lines (clear_byte (interpreter v).rom (state_after v p.moves)) looks.labels address count
 
 -- each line is a piece of its own, that of a label too
-abbrev pub pieces : List (ℕ × List ℕ) → VipState → ℕ → Command → Place → List (List ℕ)
-pieces labels v limit (Runs running) p = running_lines v limit running p
-pieces labels v limit (Shows showing) p = shown labels (interpreter v).rom (state_after v p.moves) showing
-pieces labels v limit (Seeks seeking) p = seeking_lines v (sought v limit seeking p)
-pieces labels v limit (Tells telling) p = told labels v telling p
+abbrev pub pieces : Looks → VipState → ℕ → Command → Place → List (List ℕ)
+pieces looks v limit (Runs running) p = running_lines v limit running p
+pieces looks v limit (Shows showing) p = shown looks.labels (interpreter v).rom (state_after v p.moves) showing
+pieces looks v limit (Seeks seeking) p = seeking_lines looks v (sought v limit seeking p)
+pieces looks v limit (Tells telling) p = told looks v telling p
 
 -- the place after a command
 abbrev pub place_with : VipState → ℕ → Command → Place → Place
@@ -146,8 +147,8 @@ place_with v limit _ p = p
 abbrev pub place_after : VipState → ℕ → List Spoken → Place → Place
 place_after v limit = after_all (place_with v limit)
 
-abbrev pub written : List (ℕ × List ℕ) → VipState → ℕ → List Spoken → Place → List (List ℕ)
-written labels v limit = all_pieces (place_with v limit) (pieces labels v limit)
+abbrev pub written : Looks → VipState → ℕ → List Spoken → Place → List (List ℕ)
+written looks v limit = all_pieces (place_with v limit) (pieces looks v limit)
 
 -- the board is at a place of the run of `start`
 pub record StandsAt (start : VipState) (p : Place) (v : VipState) : Type 0 where
@@ -158,34 +159,34 @@ pub record StandsAt (start : VipState) (p : Place) (v : VipState) : Type 0 where
 
 -- A put of a command's echo failed, and the board is at the place before it; or the echo went out, a put of its answer failed, and the board is
 -- where the command leaves it.
-abbrev pub Breaks : List (ℕ × List ℕ) → VipState → ℕ → Spoken → Place → VipState → SinkMeaning → SinkMeaning → Type 0
-Breaks labels start limit spoken p v old new =
+abbrev pub Breaks : Looks → VipState → ℕ → Spoken → Place → VipState → SinkMeaning → SinkMeaning → Type 0
+Breaks looks start limit spoken p v old new =
     (FailsWithin (option_to_list spoken.echo) old new × StandsAt start p v)
-    ⊎ ((middle : SinkMeaning) × PutsAll (option_to_list spoken.echo) old middle × FailsWithin (pieces labels start limit spoken.command p) middle new
+    ⊎ ((middle : SinkMeaning) × PutsAll (option_to_list spoken.echo) old middle × FailsWithin (pieces looks start limit spoken.command p) middle new
     × StandsAt start (place_with start limit spoken.command p) v)
 
 -- the commands before one went out whole, and it broke off
-pub record Faults (labels : List (ℕ × List ℕ)) (start : VipState) (limit : ℕ) (commands : List Spoken) (p : Place) (v : VipState) (old new : SinkMeaning) : Type 0 where
+pub record Faults (looks : Looks) (start : VipState) (limit : ℕ) (commands : List Spoken) (p : Place) (v : VipState) (old new : SinkMeaning) : Type 0 where
   pub before : List Spoken
   pub command : Spoken
   pub after : List Spoken
   pub place : commands ≡ before ++ command ∷ after
   pub middle : SinkMeaning
-  pub whole : PutsAll (written labels start limit before p) old middle
-  pub breaks : Breaks labels start limit command (place_after start limit before p) v middle new
+  pub whole : PutsAll (written looks start limit before p) old middle
+  pub breaks : Breaks looks start limit command (place_after start limit before p) v middle new
 
 -- all pieces went out whole, and the board is where the commands leave it
-pub record RunsWhole (labels : List (ℕ × List ℕ)) (start : VipState) (limit : ℕ) (commands : List Spoken) (p : Place) (v : VipState) (old new : SinkMeaning) : Type 0 where
-  pub puts : PutsAll (written labels start limit commands p) old new
+pub record RunsWhole (looks : Looks) (start : VipState) (limit : ℕ) (commands : List Spoken) (p : Place) (v : VipState) (old new : SinkMeaning) : Type 0 where
+  pub puts : PutsAll (written looks start limit commands p) old new
   pub stands : StandsAt start (place_after start limit commands p) v
 
 -- what all commands answer, from a place on; it is a stop exactly where the board is at a stop point in the end
-abbrev pub DebugAnswers : List (ℕ × List ℕ) → VipState → ℕ → List Spoken → Place → VipState → SinkMeaning → SinkMeaning → DebugEnd → Type 0
-DebugAnswers labels start limit commands p v old new Done =
-    RunsWhole labels start limit commands p v old new × (is_stop (interpreter start) v.board.machine ≡ false)
-DebugAnswers labels start limit commands p v old new (Stopped stop) =
-    RunsWhole labels start limit commands p v old new
+abbrev pub DebugAnswers : Looks → VipState → ℕ → List Spoken → Place → VipState → SinkMeaning → SinkMeaning → DebugEnd → Type 0
+DebugAnswers looks start limit commands p v old new Done =
+    RunsWhole looks start limit commands p v old new × (is_stop (interpreter start) v.board.machine ≡ false)
+DebugAnswers looks start limit commands p v old new (Stopped stop) =
+    RunsWhole looks start limit commands p v old new
     × (is_stop (interpreter start) v.board.machine ≡ true)
     × (stop ≡ stop_by start (place_after start limit commands p).moves)
-DebugAnswers labels start limit commands p v old new WriteFault =
-    FailsWithin (written labels start limit commands p) old new × Faults labels start limit commands p v old new
+DebugAnswers looks start limit commands p v old new WriteFault =
+    FailsWithin (written looks start limit commands p) old new × Faults looks start limit commands p v old new

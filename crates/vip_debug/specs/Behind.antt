@@ -10,6 +10,7 @@ use Rattle.vip_relation.specs.State.Start.{Saved}
 use Rattle.vip_words.specs.Spoken.{Spoken}
 use Rattle.vip_words.specs.declared.debug_commands.Command.TheVariants.{Runs}
 use Rattle.vip_words.specs.declared.debug_commands.Running.TheVariants.{To}
+use Rattle.vip_debug.specs.declared.looks.Looks.{Looks}
 use Rattle.vip_debug.specs.Answers.{at_start, moves_until, place_after, place_with, stop_by, written}
 
 -- from the cycle behind this one on the same keys are held down
@@ -18,8 +19,8 @@ HoldSame cycle script script' = (t : ℕ) → cycle < t → (k : ℕ) → held_a
 
 -- Behind `to` a cycle commands write of run v what they write of run u from its start on, and leave both boards at the same machine; where that is a
 -- stop point, the stop is the same.
-pub record AnswersAs (labels : List (ℕ × List ℕ)) (v u : VipState) (limit cycle : ℕ) (commands : List Spoken) : Type 0 where
-  pub pieces : written labels v limit commands (place_with v limit (Runs (To cycle)) (at_start v)) ≡ written labels u limit commands (at_start u)
+pub record AnswersAs (looks : Looks) (v u : VipState) (limit cycle : ℕ) (commands : List Spoken) : Type 0 where
+  pub pieces : written looks v limit commands (place_with v limit (Runs (To cycle)) (at_start v)) ≡ written looks u limit commands (at_start u)
   pub machine :
       state_after v (place_after v limit commands (place_with v limit (Runs (To cycle)) (at_start v))).moves
       ≡ state_after u (place_after u limit commands (at_start u)).moves
@@ -40,6 +41,6 @@ GoesOnBehind =
     → (file : List ℕ)
     → machine_of (Saved file) ≡ state_after (begun e s script) (moves_until (begun e s script) cycle)
     → HoldSame (machine_of (Saved file)).cycle script script'
-    → (labels : List (ℕ × List ℕ))
+    → (looks : Looks)
     → (commands : List Spoken)
-    → AnswersAs labels (begun e s script) (begun e (Saved file) script') limit cycle commands
+    → AnswersAs looks (begun e s script) (begun e (Saved file) script') limit cycle commands

@@ -22,6 +22,7 @@ mod code;
 mod game;
 mod going;
 pub mod laws;
+mod looks;
 mod moves;
 mod program;
 mod registers;
@@ -30,6 +31,7 @@ mod show;
 mod target;
 mod watched;
 
+pub use looks::Looks;
 pub use moves::Change;
 pub use program::run_program_commands;
 pub use run::{DebugEnd, run_commands};

@@ -5,7 +5,7 @@ ghost use Rattle.vip_outside.specs.Sink.{PutAnswers};
 ghost use Rattle.vip_outside.specs.Pieces.{StreamAnswers};
 ghost use Rattle.chip8_lang.specs.View.{view_at};
 ghost use Rattle.vip_relation.specs.Follows.{Follows};
-ghost use Rattle.vip_text.specs.Traces.{plain, trace_line};
+ghost use Rattle.vip_text.specs.Traces.{trace_line};
 ghost use Rattle.vip_debug.specs.Answers.{DebugAnswers, begun, pieces, place_of, place_with, ran, running_lines, seeking_lines, sought, stop_text, told};
 ghost use Rattle.vip_debug.specs.Parts.{Makes, TellsPresent};
 
@@ -13,14 +13,14 @@ use crate::answer::{put_completed, put_echo, put_showing};
 use crate::code::put_code;
 use crate::game::run_game;
 use crate::going::seek;
+use crate::looks::Looks;
 use crate::moves::Change;
 use crate::show::{put_screen, put_state};
-use asm_core::Labels;
 use chip8_lang::StopRecord;
 use vip_byte::Buffer;
 use vip_outside::{Failed, Sink};
 use vip_relation::Vip;
-use vip_text::{Limit, PLAIN, trace_text};
+use vip_text::{Limit, TraceColumns, trace_text};
 use vip_words::{Command, Commands, Running, Seeking, Telling};
 
 /// How the commands ended.
@@ -44,13 +44,13 @@ fn put_stop<O: Sink>(stop: &StopRecord, out: &mut O) -> Result<(), Failed>
 }
 
 /// Puts the record of the dispatch point at which the board is, and which was met last.
-fn put_point<O: Sink>(vip: &Vip, out: &mut O) -> Result<(), Failed>
+fn put_point<O: Sink>(vip: &Vip, columns: TraceColumns, out: &mut O) -> Result<(), Failed>
     requires { TellsPresent vip.now }
-    ensures { PutAnswers (trace_line plain (view_at vip.now.edition vip.now.board.machine)) (O.meaning out.old) (O.meaning out.new) result }
+    ensures { PutAnswers (trace_line columns (view_at vip.now.edition vip.now.board.machine)) (O.meaning out.old) (O.meaning out.new) result }
 {
     let mut text = Buffer::new();
     if let Some(view) = vip.last() {
-        trace_text(view, PLAIN, &mut text);
+        trace_text(view, columns, &mut text);
     }
     out.put(text.as_slice())
 }
@@ -81,6 +81,7 @@ fn put_running<O: Sink>(
 /// Runs the board to a dispatch point, and puts what the command writes.
 fn put_seeking<O: Sink>(
     vip: &mut Vip,
+    looks: &Looks,
     seeking: Seeking,
     limit: Limit,
     out: &mut O,
@@ -89,12 +90,12 @@ fn put_seeking<O: Sink>(
     requires within { vip.old.board.machine.cycle ≤ limit }
     ensures follows { Follows vip.new }
     ensures makes { Makes limit vip.old vip.new (sought (begun vip.old) limit seeking (place_of vip.old)).place }
-    ensures lines { StreamAnswers (seeking_lines (begun vip.old) (sought (begun vip.old) limit seeking (place_of vip.old))) (O.meaning out.old) (O.meaning out.new) result }
+    ensures lines { StreamAnswers (seeking_lines looks.now (begun vip.old) (sought (begun vip.old) limit seeking (place_of vip.old))) (O.meaning out.old) (O.meaning out.new) result }
 {
     let completed = seek(vip, seeking, limit);
     match vip.stop() {
         Some(stop) => put_stop(&stop, out),
-        None if completed => put_point(vip, out),
+        None if completed => put_point(vip, looks.columns, out),
         None => out.put(b"end\n"),
     }
 }
@@ -102,19 +103,19 @@ fn put_seeking<O: Sink>(
 /// Puts what was met of the language, or its opcodes.
 fn put_telling<O: Sink>(
     vip: &Vip,
-    labels: &Labels,
+    looks: &Looks,
     telling: Telling,
     out: &mut O,
 ) -> Result<(), Failed>
     requires { Follows vip.now }
-    ensures { StreamAnswers (told labels.now (begun vip.now) telling (place_of vip.now)) (O.meaning out.old) (O.meaning out.new) result }
+    ensures { StreamAnswers (told looks.now (begun vip.now) telling (place_of vip.now)) (O.meaning out.old) (O.meaning out.new) result }
 {
     match telling {
-        Telling::State => put_state(vip, out),
+        Telling::State => put_state(vip, looks.columns, out),
         Telling::Screen => put_screen(vip, out),
         Telling::Code(address, count) => put_code(
             vip.board().memory(),
-            labels,
+            &looks.labels,
             address,
             count,
             out,
@@ -125,7 +126,7 @@ fn put_telling<O: Sink>(
 /// Runs one command.
 fn run_command<O: Sink>(
     vip: &mut Vip,
-    labels: &Labels,
+    looks: &Looks,
     command: Command,
     limit: Limit,
     out: &mut O,
@@ -134,13 +135,13 @@ fn run_command<O: Sink>(
     requires within { vip.old.board.machine.cycle ≤ limit }
     ensures follows { Follows vip.new }
     ensures makes { Makes limit vip.old vip.new (place_with (begun vip.old) limit command (place_of vip.old)) }
-    ensures pieces { StreamAnswers (pieces labels.now (begun vip.old) limit command (place_of vip.old)) (O.meaning out.old) (O.meaning out.new) result }
+    ensures pieces { StreamAnswers (pieces looks.now (begun vip.old) limit command (place_of vip.old)) (O.meaning out.old) (O.meaning out.new) result }
 {
     match command {
         Command::Runs(running) => put_running(vip, running, limit, out),
-        Command::Shows(showing) => put_showing(vip.board(), labels, showing, out),
-        Command::Seeks(seeking) => put_seeking(vip, seeking, limit, out),
-        Command::Tells(telling) => put_telling(vip, labels, telling, out),
+        Command::Shows(showing) => put_showing(vip.board(), &looks.labels, showing, out),
+        Command::Seeks(seeking) => put_seeking(vip, looks, seeking, limit, out),
+        Command::Tells(telling) => put_telling(vip, looks, telling, out),
     }
 }
 
@@ -158,19 +159,19 @@ fn run_command<O: Sink>(
 pub fn run_commands<O: Sink>(
     vip: &mut Vip,
     commands: &Commands,
-    labels: &Labels,
+    looks: &Looks,
     limit: Limit,
     out: &mut O,
 ) -> DebugEnd
     ensures follows { Follows vip.new }
-    ensures answer { DebugAnswers labels.now (begun vip.old) (max limit vip.old.board.machine.cycle) commands.now (place_of vip.old) vip.new (O.meaning out.old) (O.meaning out.new) result }
+    ensures answer { DebugAnswers looks.now (begun vip.old) (max limit vip.old.board.machine.cycle) commands.now (place_of vip.old) vip.new (O.meaning out.old) (O.meaning out.new) result }
 {
     let limit = Limit::up_to(limit.cycles().max(vip.board().now()));
     for entry in commands.as_slice() {
         if let Err(_) = put_echo(entry, out) {
             return DebugEnd::WriteFault;
         }
-        if let Err(_) = run_command(vip, labels, entry.command(), limit, out) {
+        if let Err(_) = run_command(vip, looks, entry.command(), limit, out) {
             return DebugEnd::WriteFault;
         }
     }

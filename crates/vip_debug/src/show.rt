@@ -6,15 +6,19 @@ ghost use Rattle.vip_debug.specs.Shown.{screen_text, state_line};
 use vip_byte::{Buffer, put};
 use vip_outside::{Failed, Sink};
 use vip_relation::Vip;
-use vip_text::{TIMED, trace_text};
+use vip_text::{TraceColumns, trace_text};
 
-/// Puts the language state there, with the count of ticks and the cycle, or that there is none.
-pub fn put_state<O: Sink>(vip: &Vip, out: &mut O) -> Result<(), Failed>
-    ensures { PutAnswers (state_line vip.now.last) (O.meaning out.old) (O.meaning out.new) result }
+/// Puts the language state there, with these columns and its time, or that there is none.
+pub fn put_state<O: Sink>(vip: &Vip, columns: TraceColumns, out: &mut O) -> Result<(), Failed>
+    ensures { PutAnswers (state_line columns vip.now.last) (O.meaning out.old) (O.meaning out.new) result }
 {
     let mut text = Buffer::new();
+    let timed = TraceColumns {
+        time: true,
+        ..columns
+    };
     match vip.last() {
-        Some(view) => trace_text(view, TIMED, &mut text),
+        Some(view) => trace_text(view, timed, &mut text),
         None => put(&mut text, b"none\n"),
     }
     out.put(text.as_slice())

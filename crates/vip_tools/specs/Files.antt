@@ -120,7 +120,7 @@ module _ {N : Type 0} where
   start_files (start.Made made) = []
 
   abbrev pub show_files : Show N → List (Needed N)
-  show_files (show.Commands commands echo) = commands_file commands ∷ []
+  show_files (show.Commands commands echo columns) = commands_file commands ∷ []
   show_files _ = []
 
   abbrev pub program_show_files : ProgramShow N → List (Needed N)

@@ -58,9 +58,17 @@ fn load_show<'a, F: Files>(
     ensures { ShowLoads (F.meaning files.old) (F.meaning files.new) (show_of show.entry) result }
 {
     match show {
-        Show::Commands { file, echo } => {
+        Show::Commands {
+            file,
+            echo,
+            columns,
+        } => {
             let file = open_file(alloc, files, &commands_file(file))?;
-            Ok(Show::Commands { file, echo })
+            Ok(Show::Commands {
+                file,
+                echo,
+                columns,
+            })
         }
         Show::Plain(shown) => Ok(Show::Plain(shown)),
     }

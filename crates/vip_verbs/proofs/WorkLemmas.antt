@@ -15,6 +15,7 @@ use Rattle.vip_words.specs.declared.request.Show.TheVariants as show
 use Rattle.vip_words.specs.declared.request.Start as asked
 use Rattle.vip_words.specs.declared.request.Start.TheVariants as asking
 use Rattle.vip_debug.specs.Answers.{at_start, begun as begun_there, place_of, place_after, written, DebugAnswers}
+use Rattle.vip_debug.specs.declared.looks.Looks.{Looks}
 use Rattle.vip_debug.specs.declared.run.DebugEnd.{DebugEnd}
 use Rattle.vip_debug.specs.declared.run.DebugEnd.TheVariants as debugger
 use Rattle.vip_outside.specs.Files.{FilesMeaning}
@@ -53,7 +54,7 @@ use Rattle.vip_tools.specs.Work.{CheckAnswers, TextAnswers}
 use Rattle.asm_lex.specs.declared.shape.Isa.{Isa}
 use Rattle.asm_listing.specs.declared.report_text.CheckText.{CheckText}
 use Rattle.vip_verbs.specs.Opening.{BeginComes, BeginsAt, CommandsIn, IsBeginning as IsBegin, IsShow, IsStarted, IsWhole, Started}
-use Rattle.vip_verbs.specs.Outcome.{HasOutcome, RomComes, RunStart, RunTo, ShowComes, StartComes, debug_ending, debugged, debugged_to, limit_from, ran, ran_with, saved_pieces, stopped_by}
+use Rattle.vip_verbs.specs.Outcome.{HasOutcome, RomComes, RunStart, RunTo, ShowComes, StartComes, debug_ending, debugged, debugged_to, limit_from, looks_of, ran, ran_with, saved_pieces, stopped_by}
 use Rattle.vip_verbs.specs.Prepared.{DebugEnds, IsBeginning, NotOpened, OpenAnswers, PerformAnswers, PrepareAnswers, ended_by, checked, run_ended, save_ended, shown_as, texted}
 use Rattle.vip_verbs.specs.declared.opening.Beginning.{Beginning}
 use Rattle.vip_verbs.specs.declared.opening.Beginning.TheVariants as beginning
@@ -109,8 +110,8 @@ refused-game edition code = refused-first (GameComes edition code) (game_start e
 module _ (e : Edition) (s : Start) (keys : Option (List ℕ)) (known : Known) (limit : ℕ) where
   -- what is shown of it isn't ready
   pub refused-show : (asked : Show (List ℕ)) (refusal : Refusal) → RefusedBy (CommandsIn known limit asked) refusal → RefusedBy (ShowComes known e s keys limit asked) refusal
-  refused-show (show.Commands text echo) refusal by =
-      refused-first (CommandsCome Chip8 known.names echo limit text) (λ commands. RunTo e keys (λ script. debugged known.labels commands e s script limit)) refusal by
+  refused-show (show.Commands text echo columns) refusal by =
+      refused-first (CommandsCome Chip8 known.names echo limit text) (λ commands. RunTo e keys (λ script. debugged (looks_of known columns) commands e s script limit)) refusal by
   refused-show asked refusal by = by-each (λ (commands : List Spoken). commands ≡ []) (ShowComes known e s keys limit asked) (cause_of refusal) by
 
   -- it is ready, so it comes to what it makes of its script
@@ -119,8 +120,8 @@ module _ (e : Edition) (s : Start) (keys : Option (List ℕ)) (known : Known) (l
     Comes = RunTo e keys (λ script. shown_as ready (begun e s script) limit)
 
     comes-as : (asked : Show (List ℕ)) → IsShow known limit asked ready → (o : Outcome) → Comes o → ShowComes known e s keys limit asked o
-    comes-as (show.Commands text echo) is o come =
-        behind (CommandsCome Chip8 known.names echo limit text) (λ commands. RunTo e keys (λ script. debugged known.labels commands e s script limit)) is.0 is.2 o
+    comes-as (show.Commands text echo columns) is o come =
+        behind (CommandsCome Chip8 known.names echo limit text) (λ commands. RunTo e keys (λ script. debugged (looks_of known columns) commands e s script limit)) is.0 is.2 o
         (rw (is.4, is.3) at come)
     comes-as (show.Plain (plain.Trace columns)) is o come = rw is at come
     comes-as (show.Plain plain.Pictures) is o come = rw is at come
@@ -147,12 +148,12 @@ module _ (e : Edition) (s : Start) (keys : Option (List ℕ)) (known : Known) (l
 
 -- ---- what the debugger answers of a machine that begins
 
-module _ (labels : List (ℕ × List ℕ)) (limit : ℕ) (commands : List Spoken) (v w : VipState) (old new : SinkMeaning) (begins : IsBeginning v) where
+module _ (looks : Looks) (limit : ℕ) (commands : List Spoken) (v w : VipState) (old new : SinkMeaning) (begins : IsBeginning v) where
   abbrev Answered : DebugEnd → Type 0
-  Answered end = DebugAnswers labels (begun_there v) (max limit v.board.machine.cycle) commands (place_of v) w old new end
+  Answered end = DebugAnswers looks (begun_there v) (max limit v.board.machine.cycle) commands (place_of v) w old new end
 
   abbrev Answers_to : ℕ → VipState → DebugEnd → Type 0
-  Answers_to last u end = DebugAnswers labels u last commands (at_start u) w old new end
+  Answers_to last u end = DebugAnswers looks u last commands (at_start u) w old new end
 
   -- it begins before the first move, and the limit isn't in its past
   from-begun : (e : Edition) (s : Start) (script : List KeyEvent) (end : DebugEnd)
@@ -163,14 +164,14 @@ module _ (labels : List (ℕ × List ℕ)) (limit : ℕ) (commands : List Spoken
   from-start : (end : DebugEnd) → Answered end → Answers_to (limit_from v.start limit) v end
   from-start end =
       subst
-      (λ u. DebugAnswers labels (begun_there u) (max limit u.board.machine.cycle) commands (place_of u) w old new end → Answers_to (limit_from u.start limit) u end)
+      (λ u. DebugAnswers looks (begun_there u) (max limit u.board.machine.cycle) commands (place_of u) w old new end → Answers_to (limit_from u.start limit) u end)
       (sym begins.is)
       (from-begun v.edition begins.start begins.script end)
 
   abbrev last : ℕ
   last = limit_from v.start limit
 
-  pub debug-done : Answered debugger.Done → (AtLimit ≡ debug_ending v last commands) × PutsAll (written labels v last commands (at_start v)) old new
+  pub debug-done : Answered debugger.Done → (AtLimit ≡ debug_ending v last commands) × PutsAll (written looks v last commands (at_start v)) old new
   debug-done answers =
       let here = from-start debugger.Done answers in
       let runs : is_stop (interpreter v) (state_after v (place_after v last commands (at_start v)).moves) ≡ false = rw here.0.stands.machine at here.1 in
@@ -178,13 +179,13 @@ module _ (labels : List (ℕ × List ℕ)) (limit : ℕ) (commands : List Spoken
 
   pub debug-stopped :
       (stop : StopRecord) → Answered (debugger.Stopped stop)
-      → (stopped_by stop ≡ debug_ending v last commands) × PutsAll (written labels v last commands (at_start v)) old new
+      → (stopped_by stop ≡ debug_ending v last commands) × PutsAll (written looks v last commands (at_start v)) old new
   debug-stopped stop answers =
       let here = from-start (debugger.Stopped stop) answers in
       let stops : is_stop (interpreter v) (state_after v (place_after v last commands (at_start v)).moves) ≡ true = rw here.0.stands.machine at here.1 in
       (rw stops (ap stopped_by here.2), here.0.puts)
 
-  pub debug-fails : Answered debugger.WriteFault → FailsWithin (written labels v last commands (at_start v)) old new
+  pub debug-fails : Answered debugger.WriteFault → FailsWithin (written looks v last commands (at_start v)) old new
   debug-fails answers = (from-start debugger.WriteFault answers).0
 
 -- ---- the work
@@ -222,21 +223,21 @@ save-performs limit ending (Some file) old new (Ok (Some end)) saves = record {
 }
 save-performs limit ending (Some file) old new (Err failed) fails = fails
 
-module _ (labels : List (ℕ × List ℕ)) (limit : ℕ) (commands : List Spoken) (v w : VipState) (old new : SinkMeaning) (begins : IsBeginning v) where
+module _ (looks : Looks) (limit : ℕ) (commands : List Spoken) (v w : VipState) (old new : SinkMeaning) (begins : IsBeginning v) where
   abbrev Comes-to : Outcome
-  Comes-to = debugged_to labels limit (limit_from v.start limit) commands v
+  Comes-to = debugged_to looks limit (limit_from v.start limit) commands v
 
   -- commands that were run
   pub debug-performs :
-      (end : DebugEnd) (r : Result Ended PerformFault) → Answered labels limit commands v w old new begins end → DebugEnds limit end r
+      (end : DebugEnd) (r : Result Ended PerformFault) → Answered looks limit commands v w old new begins end → DebugEnds limit end r
       → PerformAnswers Comes-to old new r
   debug-performs debugger.Done r answers is =
-      let done = debug-done labels limit commands v w old new begins answers in
+      let done = debug-done looks limit commands v w old new begins answers in
       rw is (record { puts = done.1; status_is = ap end_status (sym done.0); report_is = ap (end_report limit) (sym done.0) })
   debug-performs (debugger.Stopped stop) r answers is =
-      let stopped = debug-stopped labels limit commands v w old new begins stop answers in
+      let stopped = debug-stopped looks limit commands v w old new begins stop answers in
       rw is (record { puts = stopped.1; status_is = ap end_status (sym stopped.0); report_is = ap (end_report limit) (sym stopped.0) })
-  debug-performs debugger.WriteFault r answers is = rw is (debug-fails labels limit commands v w old new begins answers)
+  debug-performs debugger.WriteFault r answers is = rw is (debug-fails looks limit commands v w old new begins answers)
 
 -- ---- what is opened
 

@@ -25,7 +25,8 @@ use Rattle.vip_tools.specs.Judged.{Judged, Of, RefusedBy, bind, each, only}
 use Rattle.vip_tools.specs.Judged.Verdict.{Given}
 use Rattle.vip_tools.specs.Opening.{CommandsCome, ScriptComes}
 use Rattle.vip_show.specs.declared.profile.Profile.{Profile}
-use Rattle.vip_verbs.specs.Outcome.{IsSavedIn, RomComes, RunStart, StartComes, known_in}
+use Rattle.vip_debug.specs.declared.looks.Looks.{Looks}
+use Rattle.vip_verbs.specs.Outcome.{IsSavedIn, RomComes, RunStart, StartComes, known_in, looks_of}
 use Rattle.vip_verbs.specs.declared.opening.Beginning.{Beginning}
 use Rattle.vip_verbs.specs.declared.opening.Beginning.TheVariants.{Reset, Saved}
 use Rattle.vip_verbs.specs.declared.opening.Opened.{Opened}
@@ -85,14 +86,14 @@ IsPlain (plain.Summary number) ready = ready ≡ shows.Summary number
 
 -- what is shown of a run up to a limit is ready: its commands are those that their text says
 abbrev pub IsShow : Known → ℕ → Show (List ℕ) → ReadyShow → Type 0
-IsShow known limit (show.Commands text echo) ready =
-    (commands : List Spoken) × (labels : List (ℕ × List ℕ)) × (commands_of Chip8 known.names echo limit text ≡ Ok commands) × (labels ≡ known.labels)
-    × (ready ≡ shows.Commands commands labels)
+IsShow known limit (show.Commands text echo columns) ready =
+    (commands : List Spoken) × (looks : Looks) × (commands_of Chip8 known.names echo limit text ≡ Ok commands) × (looks ≡ looks_of known columns)
+    × (ready ≡ shows.Commands commands looks)
 IsShow known limit (show.Plain shown) ready = IsPlain shown ready
 
 -- the commands of what is shown, where it has some
 abbrev pub CommandsIn : Known → ℕ → Show (List ℕ) → Judged (List Spoken)
-CommandsIn known limit (show.Commands text echo) = CommandsCome Chip8 known.names echo limit text
+CommandsIn known limit (show.Commands text echo columns) = CommandsCome Chip8 known.names echo limit text
 CommandsIn known limit _ = only []
 
 abbrev pub ShowReady : Known → ℕ → Show (List ℕ) → Result ReadyShow Refusal → Type 0

@@ -37,6 +37,8 @@ use Rattle.vip_show.specs.Endings.{ending_of}
 use Rattle.vip_show.specs.Output.{count_of, is_dispatch_event, is_picture_event, lit_at, picture_pieces, screen_piece, trace_lines}
 use Rattle.vip_show.specs.Profile.{profile_pieces}
 use Rattle.vip_show.specs.StateOutput.{saved_file}
+use Rattle.vip_debug.specs.declared.looks.Looks.{Looks}
+use Rattle.vip_text.specs.declared.trace.TraceColumns.{TraceColumns}
 use Rattle.vip_text.specs.StateFile.{shown as saved_machine, IsAccepted}
 use Rattle.vip_text.specs.Bounds.{bounds_table}
 use Rattle.vip_text.specs.Summaries.{summary_line}
@@ -166,19 +168,23 @@ limit_from (Saved file) limit = max limit (saved_machine file).cycle
 abbrev pub debug_ending : VipState → ℕ → List Spoken → Ending
 debug_ending v limit commands = ending_where v (place_after v limit commands (at_start v)).moves
 
--- the answers begin before the first move
-abbrev pub debugged_to : List (ℕ × List ℕ) → ℕ → ℕ → List Spoken → VipState → Outcome
-debugged_to labels limit last commands v = ran limit (written labels v last commands (at_start v)) (debug_ending v last commands)
+-- how answers are shown, by what is known of the code
+abbrev pub looks_of : Known → TraceColumns → Looks
+looks_of known columns = record { columns = columns; labels = known.labels }
 
-abbrev pub debugged : List (ℕ × List ℕ) → List Spoken → Edition → Start → List KeyEvent → ℕ → Outcome
-debugged labels commands e s script limit = debugged_to labels limit (limit_from s limit) commands (begun e s script)
+-- the answers begin before the first move
+abbrev pub debugged_to : Looks → ℕ → ℕ → List Spoken → VipState → Outcome
+debugged_to looks limit last commands v = ran limit (written looks v last commands (at_start v)) (debug_ending v last commands)
+
+abbrev pub debugged : Looks → List Spoken → Edition → Start → List KeyEvent → ℕ → Outcome
+debugged looks commands e s script limit = debugged_to looks limit (limit_from s limit) commands (begun e s script)
 
 -- A run from a start, of whose code this is known, under a script file up to a limit that is shown so. Under the debugger it comes to the first fault of its
 -- commands, or else, as other runs do, to what their answers come to.
 abbrev pub ShowComes : Known → Edition → Start → Option (List ℕ) → ℕ → Show (List ℕ) → Judged Output
 ShowComes known e s keys limit (show.Plain shown) = RunTo e keys (λ script. shown_by shown e s script limit)
-ShowComes known e s keys limit (show.Commands text echo) =
-    bind (CommandsCome Chip8 known.names echo limit text) (λ commands. RunTo e keys (λ script. debugged known.labels commands e s script limit))
+ShowComes known e s keys limit (show.Commands text echo columns) =
+    bind (CommandsCome Chip8 known.names echo limit text) (λ commands. RunTo e keys (λ script. debugged (looks_of known columns) commands e s script limit))
 
 abbrev pub RunComes : RunRequest (List ℕ) → Judged Output
 RunComes run = bind (StartComes run.start) (λ s. ShowComes (known_in run.start) s.edition s.start run.keys run.limit run.show)

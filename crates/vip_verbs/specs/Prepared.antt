@@ -54,7 +54,7 @@ ended_by limit v = ending_of v.edition (events_to v limit)
 abbrev pub shown_as : ReadyShow → VipState → ℕ → Outcome
 shown_as (show.Trace columns) v limit = ran limit (run_trace columns v limit) (ended_by limit v)
 shown_as show.Pictures v limit = ran limit (run_pictures v limit) (ended_by limit v)
-shown_as (show.Commands commands labels) v limit = debugged_to labels limit (limit_from v.start limit) commands v
+shown_as (show.Commands commands looks) v limit = debugged_to looks limit (limit_from v.start limit) commands v
 shown_as show.State v limit = ran_with limit (ended_by limit v) (saved_pieces (saved_file v.edition (events_to v limit)))
 shown_as (show.Profile memory) v limit = ran limit (profile_pieces v.edition (events_to v limit)) (ended_by limit v)
 shown_as (show.Summary number) v limit = ran limit (run_summary number v limit) (ended_by limit v)

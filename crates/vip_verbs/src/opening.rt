@@ -18,6 +18,7 @@ use crate::prepared::{Prepared, ReadyShow};
 use chip8_lang::Edition;
 use chip8_source::{ImageFault, check_image, check_tall};
 use std::alloc::{AllocError, Global};
+use vip_debug::Looks;
 use vip_keypad::Script;
 use vip_relation::{ResumeFault, Run, StartFault};
 use vip_show::Profile;
@@ -165,7 +166,11 @@ fn make_ready<'a>(
     ensures { ShowReady (marked marks) limit (map_show (λ bytes. bytes.items) show.now) result }
 {
     match show {
-        Show::Commands { file, echo } => {
+        Show::Commands {
+            file,
+            echo,
+            columns,
+        } => {
             let Marks { names, labels } = marks;
             let commands = read_debugging(
                 alloc,
@@ -175,7 +180,11 @@ fn make_ready<'a>(
                 file.as_slice(),
                 limit,
             )?;
-            Ok(ReadyShow::Commands { commands, labels })
+            let looks = Looks {
+                columns: *columns,
+                labels,
+            };
+            Ok(ReadyShow::Commands { commands, looks })
         }
         Show::Plain(shown) => Ok(make_plain(alloc, *shown)?),
     }

@@ -8,6 +8,7 @@ use crate::work::{perform_run, put_text, put_told};
 use asm_core::Labels;
 use asm_listing::CheckText;
 use vip_board::Board;
+use vip_debug::Looks;
 use vip_link::Link;
 use vip_outside::Sink;
 use vip_relation::Run;
@@ -51,8 +52,8 @@ pub enum ReadyShow {
     Trace(TraceColumns),
     /// Each finished picture.
     Pictures,
-    /// The answers to these commands of the debugger, with these labels.
-    Commands { commands: Commands, labels: Labels },
+    /// The answers to these commands of the debugger, which are shown so.
+    Commands { commands: Commands, looks: Looks },
     /// The last dispatch point, as a state file.
     State,
     /// Where its time goes, by its dispatch points, with the memory for it.

@@ -6,9 +6,8 @@ ghost use Rattle.vip_verbs.specs.declared.prepared.Prepared.TheVariants as ready
 ghost use Rattle.vip_verbs.specs.declared.prepared.ReadyShow.TheVariants as show;
 
 use crate::prepared::ReadyShow;
-use asm_core::Labels;
 use asm_listing::CheckText;
-use vip_debug::{DebugEnd, run_commands};
+use vip_debug::{DebugEnd, Looks, run_commands};
 use vip_outside::{Failed, Sink};
 use vip_relation::{Run, Vip};
 use vip_show::{show_pictures, show_profile, show_saved, show_summary, show_trace};
@@ -53,17 +52,14 @@ fn debug<O: Sink>(
     run: Run,
     limit: Limit,
     commands: Commands,
-    labels: Labels,
+    looks: Looks,
     out: &mut O,
 ) -> Result<Ended, PerformFault>
-    requires { IsReady (ready.Run run limit (show.Commands commands labels)) }
-    ensures { PerformAnswers (shown_as (show.Commands commands labels) run limit) (O.meaning out.old) (O.meaning out.new) result }
+    requires { IsReady (ready.Run run limit (show.Commands commands looks)) }
+    ensures { PerformAnswers (shown_as (show.Commands commands looks) run limit) (O.meaning out.old) (O.meaning out.new) result }
 {
     let mut vip = Vip::of(run);
-    end_of_commands(
-        limit,
-        run_commands(&mut vip, &commands, &labels, limit, out),
-    )
+    end_of_commands(limit, run_commands(&mut vip, &commands, &looks, limit, out))
 }
 
 /// Makes a run, and puts what is shown of it.
@@ -79,7 +75,7 @@ pub(crate) fn perform_run<O: Sink>(
     match show {
         ReadyShow::Trace(columns) => ran(limit, show_trace(&mut run, limit, columns, out)),
         ReadyShow::Pictures => ran(limit, show_pictures(&mut run, limit, out)),
-        ReadyShow::Commands { commands, labels } => debug(run, limit, commands, labels, out),
+        ReadyShow::Commands { commands, looks } => debug(run, limit, commands, looks, out),
         ReadyShow::State => end_of_saving(limit, show_saved(&mut run, limit, out)),
         ReadyShow::Profile(mut profile) => {
             ran(limit, show_profile(&mut run, limit, &mut profile, out))

@@ -133,7 +133,7 @@ either_by file cycles given shown program_shown =
 
 -- ---- the positional words of each verb
 
--- what the options ask for besides the states of a trace
+-- what the options ask for besides the states of dispatch points
 abbrev pub columns_by : Given → TraceColumns
 columns_by given = record { time = given.has flag.At; words = given.has flag.Words; screen = given.has flag.Screen }
 
@@ -149,7 +149,7 @@ play_by _ given = None
 -- FILE CYCLES COMMANDS
 abbrev pub debug_by : List Word → Given → Option Asked
 debug_by (file ∷ cycles ∷ commands ∷ []) given =
-    either_by file cycles given (show.Commands commands (given.has flag.Echo)) (program.Commands commands (given.has flag.Echo))
+    either_by file cycles given (show.Commands commands (given.has flag.Echo) (columns_by given)) (program.Commands commands (given.has flag.Echo))
 debug_by _ given = None
 
 -- FILE CYCLES, where the file is a game or a saved state

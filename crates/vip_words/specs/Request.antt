@@ -28,7 +28,7 @@ module _ {A B : Type 0} (f : A → B) where
   map_start (start.Made made) = start.Made made
 
   abbrev pub map_show : Show A → Show B
-  map_show (show.Commands file echo) = show.Commands (f file) echo
+  map_show (show.Commands file echo columns) = show.Commands (f file) echo columns
   map_show (show.Plain shown) = show.Plain shown
 
   abbrev pub map_run : RunRequest A → RunRequest B

@@ -36,7 +36,7 @@ row verb.Play =
     made_row (codes "play") (codes "FILE" ∷ codes "CYCLES" ∷ []) false (keys_option ∷ map flag_option (flag.Tall ∷ flag.State ∷ flag.Asm ∷ flag.Rom ∷ flag.Ram ∷ []))
     (codes "each picture of a run") (codes "vip play maze.ch8 600000 > maze.pbm") (codes "FORMATS.md, A screen and a picture")
 row verb.Debug =
-    made_row (codes "debug") (codes "FILE" ∷ codes "CYCLES" ∷ codes "COMMANDS" ∷ []) false (keys_option ∷ map flag_option (flag.Tall ∷ flag.State ∷ flag.Asm ∷ flag.Echo ∷ flag.Rom ∷ flag.Ram ∷ []))
+    made_row (codes "debug") (codes "FILE" ∷ codes "CYCLES" ∷ codes "COMMANDS" ∷ []) false (keys_option ∷ map flag_option (flag.Words ∷ flag.Tall ∷ flag.State ∷ flag.Asm ∷ flag.Echo ∷ flag.Rom ∷ flag.Ram ∷ []))
     (codes "the answers to commands") (codes "vip debug count.ch8 99999 count.debug") (codes "FORMATS.md, The debugger's commands")
 row verb.Save =
     made_row (codes "save") (codes "FILE" ∷ codes "CYCLES" ∷ []) false (keys_option ∷ map flag_option (flag.Tall ∷ flag.State ∷ flag.Asm ∷ []))

@@ -178,8 +178,12 @@ pub enum MadeGame {
 /// What is shown of a run of the language.
 #[derive(Drop)]
 pub enum Show<N> {
-    /// The answers to the debugger's commands; and whether each command stands before its answer.
-    Commands { file: N, echo: bool },
+    /// The answers to the debugger's commands; whether each command stands before its answer; and what the lines of dispatch points have besides.
+    Commands {
+        file: N,
+        echo: bool,
+        columns: TraceColumns,
+    },
     /// What needs no commands.
     Plain(PlainShow),
 }
@@ -436,7 +440,7 @@ fn either_request<'a>(
     }
 }
 
-/// What the options ask for besides the states of a trace.
+/// What the options ask for besides the states of dispatch points.
 fn columns_by(given: &Given) -> TraceColumns
     ensures { result ≡ columns_by (seen_given given.now) }
 {
@@ -477,6 +481,7 @@ fn debug_request<'a>(given: &Given<'a>) -> Option<Request<&'a str>>
     let show = Show::Commands {
         file: commands,
         echo,
+        columns: columns_by(given),
     };
     let program_show = ProgramShow::Commands {
         file: commands,

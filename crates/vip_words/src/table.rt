@@ -242,7 +242,7 @@ impl Verb {
             ],
             Verb::Play => &["--keys", "--tall", "--state", "--asm", "--rom", "--ram"],
             Verb::Debug => &[
-                "--keys", "--tall", "--state", "--asm", "--echo", "--rom", "--ram",
+                "--keys", "--words", "--tall", "--state", "--asm", "--echo", "--rom", "--ram",
             ],
             Verb::Save | Verb::Profile => &["--keys", "--tall", "--state", "--asm"],
             Verb::Resume => &["--keys", "--at"],

@@ -4,4 +4,4 @@ use Rattle.vip_debug.proofs.run.run_commands.Given as goal
 
 abbrev pub invariant-loop-entry : goal.invariant-loop-entry
 invariant-loop-entry g l =
-    Debugs l.labels l.limit l.fn.vip l.vip (take l.entry-index l.entry-items) (g.O.Sink.meaning l.fn.out) (g.O.Sink.meaning l.out)
+    Debugs l.looks l.limit l.fn.vip l.vip (take l.entry-index l.entry-items) (g.O.Sink.meaning l.fn.out) (g.O.Sink.meaning l.out)

@@ -1,0 +1,13 @@
+//! How answers are shown.
+
+use asm_core::Labels;
+use vip_text::TraceColumns;
+
+/// How the answers of a machine that runs a game are shown.
+#[derive(Drop)]
+pub struct Looks {
+    /// What the lines of dispatch points have besides the states; `state` has their time always.
+    pub columns: TraceColumns,
+    /// The labels, which stand before what is shown of their addresses.
+    pub labels: Labels,
+}
