@@ -20,7 +20,7 @@ use Rattle.game_check.specs.declared.claim.Claim.{Claim}
 use Rattle.game_check.specs.Closed.{cause_by, cause_in, game_byte, goes_on, has_access, has_start, instr_in, is_allowed, is_start}
 use Rattle.game_check.specs.Grammar.{claims_of}
 use Rattle.game_check.specs.Laws.{CertifiedGames, EveryStep}
-use Rattle.game_check.specs.States.{HasOpcode, IsByte, IsCertified, IsRunFrom, last_of}
+use Rattle.game_check.specs.States.{HasOpcode, IsByte, IsCertified, IsRunFrom, NeverStops, last_of}
 use Rattle.game_check.proofs.Bytes.{byte_at, loaded, loaded_low, zeros_behind}
 use Rattle.game_check.proofs.Faultless.{IsClosed, accepted_is}
 use Rattle.game_check.proofs.Steps.{Goes, goes}
@@ -205,8 +205,17 @@ every_step e game text accepted s known =
       next = between_certified e game (claims_of text) proof.closed s known;
     }
 
+-- a game of bytes with closed claims, one of which is of the start, never stops
+pub closed_games :
+    (e : Edition) (game : List ℕ) (claims : List Claim)
+    → ((k : ℕ) → slice_index game k < 256)
+    → All (IsClosed e game claims) claims
+    → has_start claims ≡ true
+    → NeverStops e game
+closed_games e game claims bytes closed start states run =
+    runs_on e game claims closed _ (run_certified e game claims closed (first e game) states (first_certified e game claims bytes start) run)
+
 pub certified_games : CertifiedGames
-certified_games e game text bytes accepted states run =
+certified_games e game text bytes accepted =
     let proof = accepted_is e game text accepted in
-    let claims = claims_of text in
-    runs_on e game claims proof.closed _ (run_certified e game claims proof.closed (first e game) states (first_certified e game claims bytes proof.start) run)
+    closed_games e game (claims_of text) bytes proof.closed proof.start

@@ -16,18 +16,24 @@ use Rattle.rom_law.specs.Language.{Begins, GoesOn}
 use Rattle.rom_board.specs.Laws.{EveryRun}
 use Rattle.rom_board.specs.Program.{numbered, program}
 use Rattle.chip8_image.specs.Interpreters.{interpreter_of}
+use Rattle.chip8_lang.specs.declared.view.Edition.TheVariants.{Usual}
 use Rattle.vip_words.specs.declared.request.Request.TheVariants as request
+use Rattle.vip_words.specs.declared.request.Start.{Start}
+use Rattle.vip_words.specs.declared.request.Start.TheVariants.{Made}
 use Rattle.vip_words.specs.declared.request.TextVerb.TheVariants as text
 use Rattle.vip_tools.specs.declared.status.Status.TheVariants.{Done}
 use Rattle.vip_tools.specs.Files.{Loaded, needed}
 use Rattle.vip_tools.specs.Judged.Verdict.{Given}
 use Rattle.vip_tools.specs.Outcome.{Output, Shown}
+use Rattle.vip_tools.specs.Demo.{made_game}
+use Rattle.vip_tools.proofs.DemoLemmas.{made-bytes, made-fits}
 use Rattle.vip_tools.proofs.JudgedLemmas.{same_value}
 use Rattle.vip_verbs.specs.Outcome.{HasOutcome}
-use Rattle.vip_call.specs.Certified.{Certifies, IsSafe, NoneStops}
+use Rattle.vip_call.specs.Certified.{Certifies, IsSafe, NeedsNone, NoneStops}
 use Rattle.vip_call.specs.Top.{Call, ProvesCertified}
 use Rattle.vip_call.proofs.FilledLemmas.{AreGiven, are_given}
 use Rattle.vip_call.proofs.GivenStarts.{game_fits}
+use Rattle.vip_call.proofs.MadeGames.{never_stops}
 
 -- ---- no event of a run is a stop
 
@@ -53,16 +59,22 @@ module _ (e : Edition) (script : List KeyEvent) (limit : ℕ) (run : List Machin
   from_reset game (Stopped b ∷ events) never h = absurd h
 
 module _ (routines : AcceptedIsWithin) (games : CertifiedGames) (law : EveryRun) where
-  is_safe :
-      (e : Edition) (game text : List ℕ) → length game ≤ memory_size e → ((i : ℕ) → slice_index game i < 256) → IsAccepted e game text → IsSafe e game
-  is_safe e game text fits bytes accepted =
-      let never = games e game text bytes accepted in
+  is_endless : (e : Edition) (game : List ℕ) → length game ≤ memory_size e → ((i : ℕ) → slice_index game i < 256) → NeverStops e game → IsSafe e game
+  is_endless e game fits bytes never =
       record {
         never = never;
         runs = λ script limit.
             from_reset e script limit (game_run (interpreter_of e) game script limit) game (events_of (interpreter_of e) game script limit) never
             (law e game fits bytes script limit);
       }
+
+  is_safe :
+      (e : Edition) (game text : List ℕ) → length game ≤ memory_size e → ((i : ℕ) → slice_index game i < 256) → IsAccepted e game text → IsSafe e game
+  is_safe e game text fits bytes accepted = is_endless e game fits bytes (games e game text bytes accepted)
+
+  needs_none : (start : Start (List ℕ)) → NeedsNone start
+  needs_none (Made made) = is_endless Usual (made_game made) (made-fits made) (made-bytes made) (never_stops made)
+  needs_none _ = tt
 
   -- ---- a command
 
@@ -106,6 +118,7 @@ module _ (routines : AcceptedIsWithin) (games : CertifiedGames) (law : EveryRun)
               safe = is_safe edition comes.value found.value game.fits game.bytes found.gives.accepted;
             };
       }
+  shows (request.Run run) output given comes = needs_none run.start
   shows _ output given comes = tt
 
   pub proves_certified : (call : Call) → ProvesCertified call

@@ -14,6 +14,7 @@ mod Outcomes
 mod TopLemmas
 mod SavedLemmas
 mod ResumedLemmas
+mod MadeGames
 mod CertifiedLemmas
 mod CheckedLemmas
 pub mod LinkedLemmas

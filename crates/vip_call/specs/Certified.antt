@@ -1,4 +1,4 @@
--- What certificates show that were accepted, or found.
+-- What certificates show that were accepted, or found; and that a game which the program makes never stops.
 use Rattle.std.specs.Prelude.{◌≡◌, ℕ, Bool, List, [], ◌∷◌, Some}
 use Rattle.machine.specs.Keys.{Event as KeyEvent}
 use Rattle.chip8_lang.specs.declared.view.Edition.{Edition}
@@ -10,11 +10,15 @@ use Rattle.cycle_check.specs.declared.Within.{Within}
 use Rattle.game_check.specs.Least.{IsFound as IsGameFound}
 use Rattle.game_check.specs.States.{NeverStops}
 use Rattle.chip8_image.specs.Interpreters.{interpreter_of}
-use Rattle.vip_words.specs.declared.request.Request.TheVariants.{Certify, Cycles, Safe, Text}
+use Rattle.chip8_lang.specs.declared.view.Edition.TheVariants.{Usual}
+use Rattle.vip_words.specs.declared.request.Request.TheVariants.{Certify, Cycles, Run, Safe, Text}
+use Rattle.vip_words.specs.declared.request.Start.{Start}
+use Rattle.vip_words.specs.declared.request.Start.TheVariants.{Made}
 use Rattle.vip_words.specs.declared.request.TextVerb.TheVariants.{Timing}
 use Rattle.vip_words.specs.declared.request.Entry.{Entry}
 use Rattle.vip_tools.specs.Certificates.{Assembled, entry_in, exits_asked, rom_in, routine_text}
 use Rattle.vip_tools.specs.Code.{GameComes}
+use Rattle.vip_tools.specs.Demo.{made_game}
 use Rattle.vip_tools.specs.Files.{Loaded}
 use Rattle.vip_tools.specs.Judged.{Of}
 
@@ -55,10 +59,16 @@ pub record WritesCertificate (e : Edition) (game : List ℕ) (pieces : List (Lis
   pub found : IsGameFound e game text
   pub safe : IsSafe e game
 
--- what the output of a verb of certificates says: of a game, or of the one that a source gives
+-- a game that the program makes never stops, without a certificate
+abbrev pub NeedsNone : Start (List ℕ) → Type 0
+NeedsNone (Made made) = IsSafe Usual (made_game made)
+NeedsNone _ = Unit {0}
+
+-- what the output of a verb of certificates says: of a game, or of the one that a source gives; and what holds of a run without one
 abbrev pub Certifies : Loaded → List (List ℕ) → Type 0
 Certifies (Cycles source certificate exits) pieces = LeavesInTime source certificate exits pieces
 Certifies (Text (Timing entry p k) source) pieces = WritesTiming source entry p k pieces
 Certifies (Safe code certificate edition) pieces = Of (GameComes edition code) (λ game. IsSafe edition game)
 Certifies (Certify code edition) pieces = Of (GameComes edition code) (λ game. WritesCertificate edition game pieces)
+Certifies (Run run) pieces = NeedsNone run.start
 Certifies _ pieces = Unit {0}
