@@ -77,6 +77,7 @@ use Rattle.vip_tools.specs.declared.status.Status.TheVariants.{BadSource, Done, 
 use Rattle.vip_tools.proofs.CodeLemmas.{one_game}
 use Rattle.vip_tools.proofs.JudgedLemmas.{Agree, AgreeOn, AllSound, Any, IsFine, Sound, alone_agree, alone_sound, bind_agree, bind_sound, each_agree, each_sound, judged_agree, judged_sound, only_agree, result_agree, same_agree, search_agree}
 use Rattle.vip_verbs.specs.Outcome.{HasOutcome, IsSavedIn, LinkRomsCome, RomComes, RomIs, RunStart, RunTo, ShowComes, StartComes, TextVerbComes, events_in, known_in, linked, linked_after, pieces_of, ran_with, run_ending, saved_pieces, shown_by}
+use Rattle.vip_verbs.proofs.WorkLemmas.{rom-given}
 use Rattle.vip_verbs.specs.Programs.{ProgramComes, ProgramShowComes, memory_in, program_debugged, program_pictured, program_traced}
 use Rattle.vip_call.specs.Top.{Call, DecidesCertify, IsCheck, IsOfRom, IsSearch}
 use Rattle.vip_call.specs.Transcribed.{LacksPoint, SavesNone}
@@ -88,11 +89,7 @@ pub record RomsGiven : Type 0 where
   pub links : ComparesLink (Ok tt)
 
 pub roms_given : SourceGivesRom → ComparesLink (Ok tt) → RomsGiven
-roms_given games links = record { games = of; links = links }
-  where
-    of : (e : Edition) → RomIs e (Ok tt)
-    of Usual = games.0
-    of Tall = games.1
+roms_given games links = record { games = rom-given games; links = links }
 
 -- ---- faults
 

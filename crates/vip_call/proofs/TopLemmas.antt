@@ -1,5 +1,5 @@
 -- The laws of the answers, from what each answer says, and what the steps of a call say together.
-use Rattle.std.proofs.Common.{◌≡◌, ℕ, ◌<◌, ◌⊎◌, inl, inr, List, [], ◌∷◌, ◌++◌, Option, Some, None, IsErrAnd, IsSomeAnd, append_assoc, length, refl, sym, ap, subst, ◌∙◌, arith, Result, Ok, Err, true, false}
+use Rattle.std.proofs.Common.{◌≡◌, ℕ, ◌<◌, ◌⊎◌, inl, inr, List, [], ◌∷◌, ◌++◌, Option, Some, None, IsErrAnd, IsSomeAnd, append_assoc, length, refl, sym, ap, subst, ◌∙◌, arith, Result, Ok, Err, IfOk, true, false}
 use Rattle.std.specs.FinMap.{get}
 use Rattle.chip8_source.specs.declared.fault.ImageFault.TheVariants as image
 use Rattle.vip_outside.specs.Count.{Rose}
@@ -14,14 +14,14 @@ use Rattle.vip_words.specs.Rules.{Word}
 use Rattle.vip_tools.specs.declared.refusal.Misfit.TheVariants as misfit
 use Rattle.vip_call.specs.Words.{Faults, FinishAnswers, OfWords, OpensWords, PerformsAnswer, Reports, performed_status}
 use Rattle.vip_text.specs.declared.fault.StateFault.{StateFault}
-use Rattle.vip_tools.specs.Files.{Loaded, Needed, needed, shape_of, HasAll, HasFault, IsRight, ComesTo, IsFaulty, IsLarger, ReadsSome, reads_of, with_reads}
+use Rattle.vip_tools.specs.Files.{Loaded, Needed, files_of, needed, shape_of, HasAll, HasFault, IsRight, ComesTo, IsFaulty, IsLarger, ReadsSome, reads_of, with_reads}
 use Rattle.vip_tools.proofs.FilesLemmas.{reads-all, refused-behind}
 use Rattle.vip_tools.specs.Judged.Verdict.{Given, Refused, GivenUp}
 use Rattle.vip_tools.specs.Outcome.{Outcome, Output, Shown}
 use Rattle.vip_tools.proofs.JudgedLemmas.{Agree}
 use Rattle.vip_verbs.specs.Outcome.{HasOutcome}
 use Rattle.vip_call.proofs.Outcomes.{RomsGiven, SameEnd, agree, free}
-use Rattle.vip_verbs.specs.Prepared.{OfLoaded, PerformAnswers, outcome_of}
+use Rattle.vip_verbs.specs.Prepared.{IsReady, OfLoaded, PerformAnswers, outcome_of}
 use Rattle.vip_verbs.specs.declared.prepared.Prepared.{Prepared}
 use Rattle.vip_text.specs.declared.ending.RunEnd.TheVariants as end
 use Rattle.vip_tools.specs.Refusal.{status_of, too_large_status}
@@ -663,3 +663,21 @@ says_finished words files files' out out' err err' (Ok p) status given answer =
     rw answer.is (says_performed words files files' out out' err err' p given (outcome_of p) answer.answer given.here.1.here answer.performs)
 says_finished words files files' out out' err err' (Err r) status given answer =
     rw answer.0 (says_refusal words files files' out err err' r status given answer.1)
+
+-- ---- behind what was opened
+
+-- what was opened had all its files read, so want of memory behind it is one
+pub wants_behind : (words : List (List ℕ)) (old new : FilesMeaning) (p : Prepared) → OpensWords words old new (Ok p) → OpensWords words old new (Err refusal.NoMemory)
+wants_behind words old new p opens =
+    let loaded = opens.here.1 in
+    inr
+    (record {
+      asked = opens.asked;
+      words_are = opens.words_are;
+      here = reads-all old new (needed opens.asked) (files_of (needed loaded.request)) loaded.loaded.loads.read loaded.loaded.loads.reads;
+    })
+
+-- what was opened is ready
+pub opened_ready : (words : List (List ℕ)) (old new : FilesMeaning) (r : Result Prepared Refusal) → OpensWords words old new r → IfOk r IsReady
+opened_ready words old new (Ok p) opens = opens.here.0
+opened_ready words old new (Err refusal) opens = tt

@@ -4,6 +4,8 @@ use Rattle.std.specs.Borrow.{Bor}
 use Rattle.vip_outside.specs.Files.{FilesMeaning}
 use Rattle.vip_outside.specs.Sink.{SinkMeaning}
 use Rattle.vip_outside.specs.Pieces.{PutsAll, FailsWithin}
+use Rattle.chip8_source.specs.declared.fault.ImageFault.{ImageFault}
+use Rattle.vip_link.specs.Checked.{ComparesLink}
 use Rattle.vip_words.specs.Asked.{asked_by}
 use Rattle.vip_words.specs.Request.{Asked, asked_of}
 use Rattle.vip_words.specs.Rules.{Word}
@@ -22,7 +24,9 @@ use Rattle.vip_tools.specs.Judged.Verdict.{Given, Refused}
 use Rattle.vip_tools.specs.Outcome.{Outcome, Output}
 use Rattle.vip_tools.specs.Files.{needed, ReadsSome}
 use Rattle.vip_verbs.specs.Prepared.{OpenAnswers, outcome_of}
+use Rattle.vip_verbs.specs.Outcome.{RomIs}
 use Rattle.vip_verbs.specs.declared.prepared.Prepared.{Prepared}
+use Rattle.vip_verbs.specs.declared.prepared.Prepared.TheVariants.{Run, Link}
 
 -- what is understood
 abbrev pub UnderstoodAnswers : List (List ℕ) → Result (Request (Bor Word)) Refusal → Type 0
@@ -42,6 +46,12 @@ abbrev pub OpensWords : List (List ℕ) → FilesMeaning → FilesMeaning → Re
 OpensWords words old new (Err Usage) = (asked_by words ≡ None) × (new ≡ old)
 OpensWords words old new (Err NoMemory) = (new ≡ old) ⊎ OfWords words (λ asked. ReadsSome (needed asked) old new)
 OpensWords words old new answer = OfWords words (λ asked. OpenAnswers asked old new answer)
+
+-- The comparison of the ROMs of what was opened: that of the run's edition, those of two boards that are joined, and else none.
+abbrev pub RomsAnswer : Prepared → Result (Unit {0}) ImageFault → Type 0
+RomsAnswer (Run run limit shown) answer = RomIs run.edition answer
+RomsAnswer (Link link number moves) answer = ComparesLink answer
+RomsAnswer _ answer = answer ≡ Ok tt
 
 -- the output went out whole, and then its report
 pub record Reports (output : Output) (out out' err err' : SinkMeaning) (ended : Ended) : Type 0 where

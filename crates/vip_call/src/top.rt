@@ -1,11 +1,14 @@
 //! The one call that the program makes.
 
-ghost use Rattle.std.specs.Prelude.{◌≡◌, map, string_bytes};
+ghost use Rattle.std.specs.Prelude.{◌≡◌, map, string_bytes, IfErr, IfOk};
+ghost use Rattle.vip_tools.specs.declared.refusal.Refusal.TheVariants.{NoMemory};
 ghost use Rattle.vip_verbs.specs.Prepared.{IsReady, outcome_of};
-ghost use Rattle.vip_call.specs.Words.{Finishes, OpensWords, PerformsAnswer, UnderstoodAnswers, performed_status};
+ghost use Rattle.vip_call.specs.Words.{FinishAnswers, Finishes, OpensWords, PerformsAnswer, RomsAnswer, UnderstoodAnswers, performed_status};
 ghost use Rattle.vip_call.specs.Top.{call_of, EveryCall, IsFinished, Promises};
 
+use chip8_lang::Edition;
 use chip8_source::laws::source_gives_rom;
+use chip8_source::{ImageFault, check_image, check_tall};
 use cycle_check::laws::accepted_leaves;
 use game_check::laws::certified_games;
 use rom_board::bounds::least_bounds;
@@ -13,6 +16,7 @@ use rom_board::language::{every_frame, every_run, every_start, every_time, file_
 use rom_board::saved::saved_joins;
 use std::alloc::Global;
 use vip_debug::laws::goes_on_behind;
+use vip_link::check_link;
 use vip_link::laws::{every_schedule, sources_give_roms};
 use vip_outside::{Files, Sink};
 use vip_tools::{Ended, PerformFault, Refusal, Status, put_end, put_fault, put_refusal};
@@ -84,6 +88,62 @@ pub fn finish<O: Sink, E: Sink>(prepared: Prepared, out: &mut O, err: &mut E) ->
     perform_status(perform(prepared, out, err))
 }
 
+/// Compares the ROMs of what was opened with what their built-in sources give.
+fn compare_roms(alloc: Global, prepared: &Prepared) -> Result<(), ImageFault>
+    ensures { RomsAnswer prepared.now result }
+{
+    match prepared {
+        Prepared::Run { run, .. } => match run.edition() {
+            Edition::Usual => check_image(alloc),
+            Edition::Tall => check_tall(alloc),
+        },
+        Prepared::Link { .. } => check_link(alloc),
+        Prepared::Program { .. } | Prepared::Text(_) | Prepared::Checked(_) => Ok(()),
+    }
+}
+
+/// The refusal of a ROM that isn't what its source gives. Since each is by law, it can only be want of memory.
+fn check_roms<'a>(alloc: Global, prepared: &Prepared) -> Result<(), Refusal<'a>>
+    ensures { IfErr result (λ refusal. refusal ≡ NoMemory) }
+{
+    source_gives_rom();
+    sources_give_roms();
+    match compare_roms(alloc, prepared) {
+        Ok(()) => Ok(()),
+        Err(ImageFault::NoMemory) => Err(Refusal::NoMemory),
+        Err(fault) => Err(Refusal::Rom(fault)),
+    }
+}
+
+/// Opens what the words ask for, and compares its ROMs.
+fn open_compared<'a, F: Files>(
+    alloc: Global,
+    words: &'a [String],
+    files: &mut F,
+) -> Result<Prepared, Refusal<'a>>
+    ensures { OpensWords (map string_bytes words.entry.now) (F.meaning files.old) (F.meaning files.new) result }
+{
+    let prepared = open(alloc, words, files)?;
+    check_roms(alloc, &prepared)?;
+    Ok(prepared)
+}
+
+/// Finishes what was opened, or reports why nothing was.
+fn end<O: Sink, E: Sink>(
+    alloc: Global,
+    opened: Result<Prepared, Refusal<'_>>,
+    out: &mut O,
+    err: &mut E,
+) -> Status
+    requires { IfOk opened IsReady }
+    ensures { FinishAnswers opened.entry (O.meaning out.old) (O.meaning out.new) (E.meaning err.old) (E.meaning err.new) result }
+{
+    match opened {
+        Ok(prepared) => finish(prepared, out, err),
+        Err(refusal) => put_refusal(alloc, err, &refusal),
+    }
+}
+
 /// The law of every call: whoever opens what the words ask for, and then finishes what was opened, or reports why nothing was, keeps what the program
 /// promises.
 pub fn every_call()
@@ -104,8 +164,25 @@ pub fn every_call()
     sources_give_roms();
 }
 
-/// Runs the program on its words: `open`, and then `finish` or the report of a refusal. What it writes goes to `out`, each piece by one put, and one
-/// line of report to `err` by one put; after a put that failed nothing more goes to that sink. The answer is the status with which the process ends.
+/// Runs the program on its words, as `vip_main` does, without the comparison of the ROMs with their sources: by the law of `chip8_source` it finds nothing, and
+/// nearly all the time of a short run is that of assembling a source. It is for a caller that runs the program often.
+pub fn run_words<F: Files, O: Sink, E: Sink>(
+    alloc: Global,
+    words: &[String],
+    files: &mut F,
+    out: &mut O,
+    err: &mut E,
+) -> Status
+    ensures { Promises result (call_of (map string_bytes words.now) (F.meaning files.old) (F.meaning files.new) (O.meaning out.old) (O.meaning out.new) (E.meaning err.old) (E.meaning err.new)) }
+{
+    every_call();
+    let opened = open(alloc, words, files);
+    end(alloc, opened, out, err)
+}
+
+/// Runs the program on its words: opens what they ask for, compares the ROMs with their sources, and finishes, or reports a refusal. What it writes goes to
+/// `out`, each piece by one put, and one line of report to `err` by one put; after a put that failed nothing more goes to that sink. The answer is the status
+/// with which the process ends.
 pub fn vip_main<F: Files, O: Sink, E: Sink>(
     alloc: Global,
     words: &[String],
@@ -117,8 +194,6 @@ pub fn vip_main<F: Files, O: Sink, E: Sink>(
     ensures finished { IsFinished (map string_bytes words.now) (F.meaning files.old) (F.meaning files.new) (O.meaning out.old) (O.meaning out.new) (E.meaning err.old) (E.meaning err.new) result }
 {
     every_call();
-    match open(alloc, words, files) {
-        Ok(prepared) => finish(prepared, out, err),
-        Err(refusal) => put_refusal(alloc, err, &refusal),
-    }
+    let opened = open_compared(alloc, words, files);
+    end(alloc, opened, out, err)
 }

@@ -1,4 +1,4 @@
 mod FitLemmas
-mod WorkLemmas
+pub mod WorkLemmas
 pub mod ProgramLemmas
 pub mod LinkLemmas

@@ -4,6 +4,8 @@ use Rattle.std.specs.Prelude.{Option, Some, None, Vec}
 use Rattle.std.specs.declared.alloc.Global.{Global}
 use Rattle.std.proofs.Math.Nat.{max-zero}
 use Rattle.chip8_lang.specs.declared.view.Edition.{Edition}
+use Rattle.chip8_lang.specs.declared.view.Edition.TheVariants.{Tall, Usual}
+use Rattle.chip8_source.specs.Compared.{SourceGivesRom}
 use Rattle.chip8_lang.specs.declared.view.StopRecord.{StopRecord}
 use Rattle.chip8_lang.specs.Events.{is_stop}
 use Rattle.machine.specs.Keys.{Event as KeyEvent}
@@ -54,7 +56,7 @@ use Rattle.vip_tools.specs.Work.{CheckAnswers, TextAnswers}
 use Rattle.asm_lex.specs.declared.shape.Isa.{Isa}
 use Rattle.asm_listing.specs.declared.report_text.CheckText.{CheckText}
 use Rattle.vip_verbs.specs.Opening.{BeginComes, BeginsAt, CommandsIn, IsBeginning as IsBegin, IsShow, IsStarted, IsWhole, Started}
-use Rattle.vip_verbs.specs.Outcome.{HasOutcome, RomComes, RunStart, RunTo, ShowComes, StartComes, debug_ending, debugged, debugged_to, limit_from, looks_of, ran, ran_with, saved_pieces, stopped_by}
+use Rattle.vip_verbs.specs.Outcome.{HasOutcome, RomComes, RomIs, RunStart, RunTo, ShowComes, StartComes, debug_ending, debugged, debugged_to, limit_from, looks_of, ran, ran_with, saved_pieces, stopped_by}
 use Rattle.vip_verbs.specs.Prepared.{DebugEnds, IsBeginning, NotOpened, OpenAnswers, PerformAnswers, PrepareAnswers, ended_by, checked, run_ended, save_ended, shown_as, texted}
 use Rattle.vip_verbs.specs.declared.opening.Beginning.{Beginning}
 use Rattle.vip_verbs.specs.declared.opening.Beginning.TheVariants as beginning
@@ -62,6 +64,11 @@ use Rattle.vip_verbs.specs.declared.prepared.Prepared.{Prepared}
 use Rattle.vip_verbs.specs.declared.prepared.ReadyShow.{ReadyShow}
 
 -- ---- a run that begins
+
+-- the ROM of each edition is what its source gives
+pub rom-given : SourceGivesRom → (e : Edition) → RomIs e (Ok tt)
+rom-given given Usual = given.0
+rom-given given Tall = given.1
 
 pub beginning-of : (e : Edition) (s : Start) (script : List KeyEvent) (v : VipState) → IsStarted e s script v → IsBeginning v
 beginning-of e s script v starts = record { start = s; script = script; is = rw starts.is refl; runs = starts.runs }

@@ -2,30 +2,18 @@
 
 ghost use Rattle.std.specs.Prelude.{◌≤◌, length};
 ghost use Rattle.vip_link.specs.Laws.{most_bytes};
-ghost use Rattle.vip_tools.specs.Judged.{Answers};
-ghost use Rattle.vip_verbs.specs.Outcome.{LinkComes, LinkRomsCome, linked, linked_after};
+ghost use Rattle.vip_verbs.specs.Outcome.{LinkComes, linked, linked_after};
 ghost use Rattle.vip_verbs.specs.Prepared.{IsJoined, PrepareAnswers, PerformAnswers};
 
 use crate::prepared::Prepared;
-use chip8_source::ImageFault;
 use std::alloc::Global;
-use vip_link::{Link, LinkFault, check_link};
+use vip_link::laws::sources_give_roms;
+use vip_link::{Link, LinkFault};
 use vip_outside::Sink;
 use vip_tools::{Ended, Kind, PerformFault, Refusal};
 use vip_words::Moves;
 
-/// The refusal of two ROMs of which one isn't what its source gives.
-fn check_roms<'a>(alloc: Global) -> Result<(), Refusal<'a>>
-    ensures { Answers LinkRomsCome result }
-{
-    match check_link(alloc) {
-        Ok(()) => Ok(()),
-        Err(ImageFault::NoMemory) => Err(Refusal::NoMemory),
-        Err(fault) => Err(Refusal::Rom(fault)),
-    }
-}
-
-/// Compares both ROMs with their sources, and joins two boards with a message.
+/// Joins two boards with a message. Both ROMs are what their sources give, by the law of `vip_link`.
 pub(crate) fn open_link<'a>(
     alloc: Global,
     message: &[u8],
@@ -35,7 +23,7 @@ pub(crate) fn open_link<'a>(
     requires { length message.now ≤ most_bytes }
     ensures { PrepareAnswers (LinkComes message.now moves number) result }
 {
-    check_roms(alloc)?;
+    sources_give_roms();
     match Link::new(alloc, message) {
         Ok(link) => Ok(Prepared::Link {
             link,

@@ -1,4 +1,5 @@
-//! The opening of a run of the language: its commands and its key script are read, its ROM is compared, and all the memory that it needs is taken.
+//! The opening of a run of the language: its commands and its key script are read, and all the memory that it needs is taken. Its ROM
+//! is what its source gives by the law of `chip8_source`.
 
 ghost use Rattle.std.specs.Prelude.{◌≤◌, length, IfOk};
 ghost use Rattle.chip8_lang.specs.State.{memory_size};
@@ -10,13 +11,13 @@ ghost use Rattle.vip_tools.specs.Code.{marked};
 ghost use Rattle.vip_tools.specs.Files.{needed, script_files, show_files, start_files, AreFit, IsRight};
 ghost use Rattle.vip_tools.specs.Judged.{Answers};
 ghost use Rattle.vip_tools.specs.Opening.{keys_in};
-ghost use Rattle.vip_verbs.specs.Outcome.{RomComes, RomIs, RunComes};
+ghost use Rattle.vip_verbs.specs.Outcome.{RunComes};
 ghost use Rattle.vip_verbs.specs.Opening.{Accepts, BeginComes, BeginsAt, IsWhole, IsPlain, OpenedAnswers, ShowReady, Started};
 ghost use Rattle.vip_verbs.specs.Prepared.{PrepareAnswers};
 
 use crate::prepared::{Prepared, ReadyShow};
 use chip8_lang::Edition;
-use chip8_source::{ImageFault, check_image, check_tall};
+use chip8_source::laws::source_gives_rom;
 use std::alloc::{AllocError, Global};
 use vip_debug::Looks;
 use vip_keypad::Script;
@@ -25,27 +26,6 @@ use vip_show::Profile;
 use vip_text::Limit;
 use vip_tools::{Marks, Refusal, game_kind, made_game, marked_game, read_debugging, read_keys};
 use vip_words::{PlainShow, RunRequest, Show, Speaks, Start};
-
-/// Compares an edition's ROM with its built-in source.
-fn compare_rom(alloc: Global, edition: Edition) -> Result<(), ImageFault>
-    ensures { RomIs edition result }
-{
-    match edition {
-        Edition::Usual => check_image(alloc),
-        Edition::Tall => check_tall(alloc),
-    }
-}
-
-/// The refusal of a ROM that isn't what its source gives.
-fn check_rom<'a>(alloc: Global, edition: Edition) -> Result<(), Refusal<'a>>
-    ensures { Answers (RomComes edition) result }
-{
-    match compare_rom(alloc, edition) {
-        Ok(()) => Ok(()),
-        Err(ImageFault::NoMemory) => Err(Refusal::NoMemory),
-        Err(fault) => Err(Refusal::Rom(fault)),
-    }
-}
 
 /// A run of an edition's game from reset under its script.
 fn start_game<'a>(
@@ -57,7 +37,7 @@ fn start_game<'a>(
     requires { length game.now ≤ memory_size edition }
     ensures { Answers (Started edition (Reset game.now) script.now) result }
 {
-    check_rom(alloc, edition)?;
+    source_gives_rom();
     match Run::start_as(alloc, edition, game, script) {
         Ok(run) => Ok(run),
         Err(StartFault::GameTooLarge(_)) => Err(Refusal::TooLarge(game_kind(edition))),
@@ -70,11 +50,9 @@ fn go_on<'a>(alloc: Global, file: &[u8], script: &Script) -> Result<Run, Refusal
     requires { IsRight State file.now }
     ensures { Accepts file.now (λ e. Answers (Started e (Saved file.now) script.now) result) }
 {
+    source_gives_rom();
     match Run::resume(alloc, file, script) {
-        Ok(run) => {
-            check_rom(alloc, run.edition())?;
-            Ok(run)
-        }
+        Ok(run) => Ok(run),
         Err(ResumeFault::State(fault)) => Err(Refusal::State(fault)),
         Err(ResumeFault::NoMemory) => Err(Refusal::NoMemory),
     }
