@@ -1,0 +1,97 @@
+"""The way to `vip`: its library where there is one, else its program, a process a call."""
+import ctypes
+import ctypes.util
+import os
+import shutil
+import subprocess
+import tempfile
+
+HERE = os.path.dirname(os.path.realpath(__file__))
+# the folder of a checkout or of what ./install puts below a prefix
+TOP = os.path.dirname(os.path.dirname(HERE))
+BUILT = os.path.join(TOP, "crates", "vip_cli", "out")
+ROOM = 1 << 20  # bytes of output that a first call has room for
+
+
+class _File(ctypes.Structure):
+    _fields_ = [(name, ctypes.c_size_t) for name in ("name", "name_length", "content", "content_length")]
+
+
+class _Lengths(ctypes.Structure):
+    _fields_ = [("out", ctypes.c_size_t), ("err", ctypes.c_size_t)]
+
+
+class Library:
+    """Calls of `vip_run` of libvip.so. Threads may call at once."""
+
+    def __init__(self, path):
+        self.path = path
+        self._run = ctypes.CDLL(path).vip_run
+        size, text = ctypes.c_size_t, ctypes.c_char_p
+        self._run.restype = ctypes.c_uint8
+        self._run.argtypes = [text, size, ctypes.c_void_p, size, text, size, ctypes.c_void_p, size, ctypes.c_void_p, size, ctypes.POINTER(_Lengths)]
+
+    def __call__(self, words, files):
+        line = b"".join(word.encode() + b"\0" for word in words)
+        places, parts, at = (_File * (len(files) or 1))(), [], 0
+        for place, (name, content) in zip(places, files.items()):
+            name = name.encode()
+            place.name, place.name_length, place.content, place.content_length = at, len(name), at + len(name), len(content)
+            parts += (name, content)
+            at += len(name) + len(content)
+        held, lengths = b"".join(parts), _Lengths()
+        room, said = ROOM, 1 << 16
+        while True:
+            out, err = bytearray(room), bytearray(said)
+            into, report = (ctypes.c_char * room).from_buffer(out), (ctypes.c_char * said).from_buffer(err)
+            status = self._run(line, len(line), places, len(files), held, len(held), into, room, report, said, lengths)
+            if lengths.out <= room and lengths.err <= said:
+                return status, bytes(memoryview(out)[: lengths.out]), bytes(memoryview(err)[: lengths.err])
+            # (what a call comes to is a function of what it is given, so the same comes once more)
+            room, said = max(room, lengths.out), max(said, lengths.err)
+
+
+class Processes:
+    """Calls of the program `vip`, each over a folder of its own with the files."""
+
+    def __init__(self, path):
+        self.path = path
+
+    def __call__(self, words, files):
+        if any(b"\0" in word.encode() for word in words):
+            return 2, b"", b""
+        with tempfile.TemporaryDirectory(prefix="vip-") as folder:
+            for name, content in files.items():
+                path = os.path.normpath(os.path.join(folder, name))
+                if not path.startswith(folder + os.sep):
+                    raise ValueError(f"without the library a file's name stays in one folder: {name!r}")
+                os.makedirs(os.path.dirname(path), exist_ok=True)
+                with open(path, "wb") as file:
+                    file.write(content)
+            ran = subprocess.run([self.path, *words], cwd=folder, stdin=subprocess.DEVNULL, capture_output=True, check=False)
+        return ran.returncode, ran.stdout, ran.stderr
+
+
+def _libraries():
+    """Where a library may be, the first that is there counts: one that VIP_LIBRARY names, of a checkout, of a prefix, of the system."""
+    if "VIP_LIBRARY" in os.environ:
+        return [os.environ["VIP_LIBRARY"]]
+    prefix = os.path.dirname(os.path.dirname(TOP))
+    near = [os.path.join(HERE, "libvip.so"), os.path.join(BUILT, "libvip.so"), os.path.join(prefix, "lib", "libvip.so.1")]
+    return [path for path in near if os.path.exists(path)] + ["libvip.so.1"]
+
+
+def engine():
+    """The library, or the program: that of VIP_PROGRAM, of a checkout, or the one on the path."""
+    if "VIP_PROGRAM" not in os.environ:
+        for path in _libraries():
+            try:
+                return Library(path)
+            except (OSError, AttributeError):
+                if "VIP_LIBRARY" in os.environ:
+                    raise
+    built = os.path.join(BUILT, "vip_cli")
+    program = os.environ.get("VIP_PROGRAM") or (built if os.access(built, os.X_OK) else shutil.which("vip"))
+    if not program:
+        raise ImportError("there is neither libvip.so nor the program vip: build them by ./vip, or install them by ./install")
+    return Processes(os.path.abspath(program))
