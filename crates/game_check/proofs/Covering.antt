@@ -1,15 +1,15 @@
 -- What each closed family has a claim around: what is met stays so under steps, and where ranges are joined.
 use Rattle.std.proofs.Common.{◌≡◌, ℕ, ◌+◌, ◌-◌, ◌<◌, ◌≤◌, true, false, Bool, ◌||◌, leb, min, max, List, [], ◌∷◌, length, get_or, refl, sym, ap, subst, ◌∙◌, arith, inl, inr}
-use Rattle.std.specs.Prelude.{slice_get, slice_set, not, Option, Some, None}
+use Rattle.std.specs.Prelude.{map, slice_get, slice_set, not, Option, Some, None}
 use Rattle.std.specs.Option.{option_to_list}
 use Rattle.std.specs.Cmp.{tied_itself}
 use Rattle.std.specs.List.{All, insert}
 use Rattle.std.specs.Ordering.{ordering_reverse}
 use Rattle.std.specs.declared.cmp.Ordering.TheVariants.{Less, Equal, Greater}
 use Rattle.std.proofs.lemmas.Bool.{and_parts, cases_lt, cases_order, le-leb, leb-true}
-use Rattle.std.proofs.lemmas.List.{get_or_default, get_or-set_same, get_or-set_other, length-set, set-get_or}
+use Rattle.std.proofs.lemmas.List.{get_or_default, get_or-map, get_or-set_same, get_or-set_other, length-map, length-set, set-get_or}
 use Rattle.std.proofs.lemmas.List.Edits.{get_or-insert_at, get_or-insert_below, get_or-insert_above, length-insert}
-use Rattle.std.proofs.lemmas.List.Elements.{All-cons, All-nil, All-set}
+use Rattle.std.proofs.lemmas.List.Elements.{All-cons, All-map, All-nil, All-set}
 use Rattle.std.proofs.lemmas.Option.{get_or_from_slice_get, slice_get_within}
 use Rattle.std.proofs.lemmas.List.Sums.{sum_by-insert, sum_by-set}
 use Rattle.chip8_lang.specs.declared.instr.Instr.{Instr}
@@ -21,7 +21,7 @@ use Rattle.game_check.specs.Closed.{has_range, high_after, instr_in, low_after, 
 use Rattle.game_check.specs.Grammar.{order}
 use Rattle.game_check.specs.Least.{IsAround, IsClosed, IsCovered, IsFollowed, IsMet, claim_of, goes, last_address, left_by}
 use Rattle.game_check.specs.Order.{IsAscending}
-use Rattle.game_check.specs.Searching.{AreMet, HasGrown, IsProper, weight, weights}
+use Rattle.game_check.specs.Searching.{AreMet, HasGrown, IsMarked, IsProper, ways_of, weight, weights}
 use Rattle.game_check.specs.declared.least.Search.{Search}
 use Rattle.game_check.proofs.Ordered.{order_total, same_point}
 
@@ -301,42 +301,63 @@ module _ (e : Edition) (game : List ℕ) (claims : List Claim) (are : AreMet e g
       (subst (IsAround c) there
       (record { point = point_is old.point c.point same; low = leb-true old.low c.low sides.0; high = leb-true c.high old.high sides.1 }))
 
+-- a claim that was found at a place
+module _ (claims : List Claim) (place : ℕ) (c : Claim) (there : Some c ≡ slice_get claims place) where
+  pub found_all : (P : Claim → Type 0) → All P claims → P c
+  found_all P all =
+      subst P (get_or_from_slice_get claims place c c (sym there)) (all place c (slice_get_within claims place c (sym there)))
+
 -- what is met at the points behind a claim
-module _ (e : Edition) (game : List ℕ) (claims : List Claim) (are : AreMet e game claims) (place : ℕ) (c : Claim) (there : Some c ≡ slice_get claims place) where
-  pub found_within : place < length claims
-  found_within = slice_get_within claims place c (sym there)
+module _ (e : Edition) (game : List ℕ) (c first : Claim) (second : Option Claim) (ways : ways_of game c ≡ first ∷ option_to_list second) where
+  abbrev left : Point → Claim
+  left = left_by (instr_in game c.point.pc) c
 
-  pub found_here : (d : Claim) → get_or claims place d ≡ c
-  found_here d = get_or_from_slice_get claims place c d (sym there)
+  abbrev points : List Point
+  points = next_points (instr_in game c.point.pc) c.point
 
-  pub found_met : IsMet e game c
-  found_met = subst (IsMet e game) (found_here c) (are.met place c found_within)
+  left_all : (P : Claim → Type 0) → All (λ p. P (left p)) points → All P (first ∷ option_to_list second)
+  left_all P all = subst (All P) ways (All-map P left points all)
 
-  pub found_proper : IsProper c
-  found_proper = subst IsProper (found_here c) (are.proper place c found_within)
+  left_first : (P : Claim → Type 0) → All (λ p. P (left p)) points → P first
+  left_first P all = (left_all P all) 0 first (omega arith)
 
-  module _ (i : Instr) (instr : i ≡ instr_in game c.point.pc) (going : goes e game c ≡ true) (p : Point) (q : Option Point)
-      (points : next_points i c.point ≡ p ∷ option_to_list q) where
-    pub first_met : IsMet e game (left_by i c p)
-    first_met =
-        let all = rw (← instr, points) at (met_step e game c found_met going) in
-        all 0 p (omega arith)
+  left_second : (P : Claim → Type 0) → All (λ p. P (left p)) points → (r : Claim) → second ≡ Some r → P r
+  left_second P all r is = (subst (λ o. All P (first ∷ option_to_list o)) is (left_all P all)) 1 r (omega arith)
 
-    pub second_met : (r : Point) → q ≡ Some r → IsMet e game (left_by i c r)
-    second_met r is =
-        let all = rw (← instr, points, is) at (met_step e game c found_met going) in
-        all 1 p (omega arith)
+  pub first_met : IsMet e game c → goes e game c ≡ true → IsMet e game first
+  first_met met going = left_first (IsMet e game) (met_step e game c met going)
 
-    pub followed_all : IsCovered claims (left_by i c p) → ((r : Point) → q ≡ Some r → IsCovered claims (left_by i c r)) → IsFollowed game claims c
-    followed_all first second = rw (← instr, points) (cover q refl)
-      where
-        cover : (o : Option Point) → q ≡ o → All (λ r. IsCovered claims (left_by i c r)) (p ∷ option_to_list o)
-        cover None is = All-cons (λ r. IsCovered claims (left_by i c r)) p [] first (All-nil _)
-        cover (Some r) is =
-            All-cons (λ r. IsCovered claims (left_by i c r)) p (r ∷ []) first
-            (All-cons (λ r. IsCovered claims (left_by i c r)) r [] (second r is) (All-nil _))
+  pub second_met : IsMet e game c → goes e game c ≡ true → (r : Claim) → second ≡ Some r → IsMet e game r
+  second_met met going = left_second (IsMet e game) (met_step e game c met going)
+
+  pub first_proper : IsProper c → IsProper first
+  first_proper proper = left_first IsProper (λ k p within. left_proper (instr_in game c.point.pc) c _ proper)
+
+  pub second_proper : IsProper c → (r : Claim) → second ≡ Some r → IsProper r
+  second_proper proper = left_second IsProper (λ k p within. left_proper (instr_in game c.point.pc) c _ proper)
+
+  pub followed_all : (claims : List Claim) → IsCovered claims first → ((r : Claim) → second ≡ Some r → IsCovered claims r) → IsFollowed game claims c
+  followed_all claims one more k p within =
+      subst (IsCovered claims) (get_or-map left points k p (left p) within) (all k (left p) (omega (arith, within, length-map points left)))
+    where
+      cover : (o : Option Claim) → second ≡ o → All (IsCovered claims) (first ∷ option_to_list o)
+      cover None is = All-cons (IsCovered claims) first [] one (All-nil _)
+      cover (Some r) is = All-cons (IsCovered claims) first (r ∷ []) one (All-cons (IsCovered claims) r [] (more r is) (All-nil _))
+
+      all : All (IsCovered claims) (map left points)
+      all = subst (All (IsCovered claims)) (sym ways) (cover second refl)
 
 -- ---- a search that goes on
+
+-- what is noted of claims doesn't tell
+pub grown_marked : (old mid new : Search) (grew : Bool) → IsMarked mid new → HasGrown old mid grew → HasGrown old new grew
+grown_marked old mid new grew marked grown = record {
+  edition = marked.edition ∙ grown.edition;
+  game = ap (λ g. g.now) marked.game ∙ grown.game;
+  kept = rw (marked.edition, marked.game, marked.claims) grown.kept;
+  more = λ up. rw marked.claims (grown.more up);
+  same = λ stays. rw marked.claims (grown.same stays);
+}
 
 or_none : (a b : Bool) → (b || a) ≡ false → (a ≡ false) × (b ≡ false)
 or_none a true h = cc

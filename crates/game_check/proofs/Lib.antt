@@ -5,6 +5,7 @@ pub mod Faultless
 pub mod Steps
 pub mod Games
 pub mod Covering
+pub mod Raised
 pub mod Smallest
 pub mod Accepted
 pub mod Written

@@ -1,6 +1,6 @@
 //! Points of control, and what a line of a certificate claims of one.
 
-ghost use Rattle.std.specs.Prelude.{◌≡◌, ◌<◌, ◌≤◌, [], ◌∷◌, ◌++◌, length, max, min, not};
+ghost use Rattle.std.specs.Prelude.{◌≡◌, ◌<◌, ◌≤◌, [], ◌∷◌, ◌++◌, length, max, min, not, slice_get};
 ghost use Rattle.game_check.specs.Closed.{has_range};
 ghost use Rattle.game_check.specs.Grammar.{order};
 
@@ -22,6 +22,15 @@ impl Point {
         let by_stack = self.stack.as_slice().cmp(other.stack.as_slice());
         let by_depth = self.stack.len().cmp(&other.stack.len());
         self.pc.cmp(&other.pc).then(by_depth.then(by_stack))
+    }
+
+    // A number by which points are looked up. Two points seldom have the same.
+    pub(crate) fn fingerprint(&self) -> u64 {
+        let mut print = u64::from(self.pc);
+        for address in self.stack.as_slice() {
+            print = print.wrapping_mul(0x9E37_79B9_7F4A_7C15) ^ u64::from(*address);
+        }
+        print
     }
 }
 
@@ -62,6 +71,16 @@ impl Claim {
         self.low = self.low.min(low);
         self.high = self.high.max(high);
         true
+    }
+}
+
+/// The claim at a place.
+pub(crate) fn claim_at(claims: &[Claim], place: usize) -> Option<Claim>
+    ensures { result ≡ slice_get claims.now place }
+{
+    match claims.get(place) {
+        Some(claim) => Some(claim.copy()),
+        None => None,
     }
 }
 

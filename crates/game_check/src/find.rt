@@ -22,8 +22,7 @@ use vip_byte::{Buffer, hex4, put};
 ///
 /// It has the claims of the least closed family: that of the start, and what each claim leaves at its next points, with one range for a point. Each other
 /// certificate has a line of the same point around each of its lines. So where a claim of it has a cause against it, or its lines have more than 1,048,576
-/// bytes, there is none; or memory was wanting. Where no loop shifts I, the time grows as the family's lines times the ways between them at most; a loop that
-/// does is followed until I is above FFFF.
+/// bytes, there is none; or memory was wanting.
 pub fn find_certificate(alloc: Global, edition: Edition, game: &[u8]) -> Result<Vec<u8>, FindFault>
     requires { length game.now ≤ memory_size edition }
     ensures found { IfOk result (λ text. IsFound edition game.now text.items) }

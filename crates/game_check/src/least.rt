@@ -1,28 +1,37 @@
 //! The least family of claims that is closed under the steps of a game.
 //!
 //! It grows claim by claim to what is left at the next points, and each closed family has a claim around each of its claims all along. So where nothing
-//! grows any more, it is the least one that is closed. A round over all claims tells that; between two rounds only claims that grew are followed.
+//! grows any more, it is the least one that is closed. A round over all claims tells that; before, sweeps follow those that grew. A cycle on which I is
+//! raised and nowhere begins anew raises it without end: so where HI was raised by way of itself, it is above all addresses.
 
-ghost use Rattle.std.specs.Prelude.{◌≡◌, true, false, nat_le, slice_get, IfOk, MatchOption, Some};
+ghost use Rattle.std.specs.Prelude.{◌≡◌, ◌<◌, ◌≤◌, ℕ, true, false, length, nat_le, slice_get, slice_index_or, IfOk, IfErr, IfSome, OnOk, MatchOption, Some};
 ghost use Rattle.std.specs.List.{sum_by};
-ghost use Rattle.game_check.specs.Closed.{instr_in};
-ghost use Rattle.game_check.specs.Least.{goes, left_by, line_bytes, most_bytes, start_claim, IsClosed, IsCovered, IsFollowed, IsMet, IsTooLong};
-ghost use Rattle.game_check.specs.Searching.{HasGrown, HasMet, IsProper, IsSettled};
+ghost use Rattle.std.specs.declared.cmp.Ordering.TheVariants.{Equal, Greater, Less};
+ghost use Rattle.game_check.specs.declared.claim.Claim.{Claim};
+ghost use Rattle.game_check.specs.Grammar.{order};
+ghost use Rattle.game_check.specs.Least.{goes, line_bytes, most_bytes, IsClosed, IsCovered, IsFollowed, IsMet, IsTooLong};
+ghost use Rattle.game_check.specs.Searching.{HasGrown, HasMet, IsMarked, IsKept, IsPlace, IsNoPlace, IsProper, IsSearch, IsSettled};
 
-use crate::claim::{Claim, Point, stack_of};
-use crate::closed::{
-    LAST_ADDRESS, high_after, instr_in, is_allowed, is_in_memory, low_after, next_points,
-};
-use chip8_lang::{Edition, Instr};
+use crate::claim::{Claim, Point, claim_at};
+use crate::closed::LAST_ADDRESS;
+use crate::explore::explore;
+use crate::ways::{shift_between, start_claim, ways_of};
+use chip8_lang::Edition;
 use std::alloc::{AllocError, Global};
-use std::collections::VecDeque;
+use std::collections::HashMap;
 use vip_byte::MOST_TEXT;
 
 /// The most lines of a certificate: each has three words at least, of five bytes.
-const MOST_LINES: usize = MOST_TEXT / 15;
+pub const MOST_LINES: usize = MOST_TEXT / 15;
 
-/// How often claims are followed between two rounds, for each claim: a round costs little beside that.
-const TURNS: usize = 16;
+/// What is noted of a claim. Only the time hangs on it.
+#[derive(Clone, Copy)]
+struct Mark {
+    // it grew behind the last time that it was followed
+    waits: bool,
+    // the place of the claim that raised its HI last
+    raised_by: Option<usize>,
+}
 
 /// The claims met so far, in order.
 #[derive(Drop)]
@@ -30,8 +39,11 @@ pub struct Search<'a> {
     edition: Edition,
     game: &'a [u8],
     claims: Vec<Claim>,
-    // the points of the claims that grew and wait to be followed, the oldest first
-    waiting: VecDeque<Point>,
+    // by the fingerprints of their points
+    places: HashMap<u64, usize>,
+    // in which order they are followed, and what is noted of each
+    order: Vec<usize>,
+    marks: Vec<Mark>,
 }
 
 /// The least closed family of a game, or none where its lines have more bytes than a certificate may.
@@ -43,73 +55,194 @@ pub fn least_family(
     ensures { IfOk result
         (λ found. MatchOption found (IsTooLong edition game.now) (λ family. IsSettled edition game.now family.items)) }
 {
-    let mut search = Search {
-        edition,
-        game,
-        claims: Vec::new(alloc),
-        waiting: VecDeque::new(alloc),
-    };
+    let mut search = Search::start(alloc, edition, game)?;
+    search.settle(alloc)?;
     while fits(search.claims.as_slice()) {
         if !search.round()? {
             return Ok(Some(search.claims));
         }
-        search.spread()?;
     }
     Ok(None)
 }
 
+impl<'a> Search<'a> {
+    // All claims as they were met first, each of which waits.
+    fn start(alloc: Global, edition: Edition, game: &'a [u8]) -> Result<Search<'a>, AllocError>
+        ensures { IfOk result (IsSearch edition game.entry.now) }
+    {
+        let (claims, prints) = explore(alloc, edition, game)?;
+        let mut places = HashMap::new(alloc);
+        for place in 0..claims.len() {
+            places.insert(claims[place].point.fingerprint(), place)?;
+        }
+        let mut order = Vec::new(alloc);
+        for print in prints {
+            if let Some(place) = places.get(&print) {
+                order.push(*place)?;
+            }
+        }
+        let mark = Mark {
+            waits: true,
+            raised_by: None,
+        };
+        let marks = vec![in alloc; mark; claims.len()]?;
+        Ok(Search {
+            edition,
+            game,
+            claims,
+            places,
+            order,
+            marks,
+        })
+    }
+}
+
 impl Search<'_> {
+    // Sweeps until no claim waits. Where no cycle raises I without end, as many sweeps do as there are claims; else as many again behind those in which
+    // such a cycle was found.
+    fn settle(&mut self, alloc: Global) -> Result<(), AllocError>
+        requires { HasMet self.old }
+        ensures { OnOk result (IsKept self.old self.new) }
+    {
+        for _ in 0..self.order.len().saturating_mul(2).saturating_add(4) {
+            if !self.sweep()? {
+                break;
+            }
+            self.lift_cycles(alloc)?;
+        }
+        Ok(())
+    }
+
+    // Follows each claim that waits when it is its turn. Whether one did.
+    fn sweep(&mut self) -> Result<bool, AllocError>
+        requires { HasMet self.old }
+        ensures { OnOk result (IsKept self.old self.new) }
+    {
+        let mut some = false;
+        for turn in 0..self.order.len() {
+            if let Some(place) = self.take_waiting(turn) {
+                self.follow(place)?;
+                some = true;
+            }
+        }
+        Ok(some)
+    }
+
+    // The place of the claim whose turn it is, if it waits. It waits no longer.
+    fn take_waiting(&mut self, turn: usize) -> Option<usize>
+        ensures { IsMarked self.old self.new }
+    {
+        let Some(place) = self.order.get(turn) else {
+            return None;
+        };
+        let place = *place;
+        let Some(mark) = self.marks.get_mut(place) else {
+            return None;
+        };
+        if mark.waits {
+            mark.waits = false;
+            Some(place)
+        } else {
+            None
+        }
+    }
+
+    // Raises one claim of each cycle of claims each of which raised the next one, to what is above all addresses.
+    fn lift_cycles(&mut self, alloc: Global) -> Result<(), AllocError>
+        requires { HasMet self.old }
+        ensures { OnOk result (IsKept self.old self.new) }
+    {
+        let mut seen = vec![in alloc; None; self.claims.len()]?;
+        for start in 0..self.claims.len() {
+            if let Some(place) = self.cycle_from(&mut seen, start) {
+                if let Some(claim) = self.lifted(place) {
+                    self.meet(claim, None)?;
+                }
+            }
+        }
+        Ok(())
+    }
+
+    // The first claim that is come to twice when from a claim on those that raised are followed back, past none that was seen from another start.
+    fn cycle_from(&self, seen: &mut Vec<Option<usize>>, start: usize) -> Option<usize> {
+        let mut place = start;
+        for _ in 0..self.claims.len().saturating_add(1) {
+            let Some(entry) = seen.get_mut(place) else {
+                return None;
+            };
+            if let Some(by) = *entry {
+                return if by == start { Some(place) } else { None };
+            }
+            *entry = Some(start);
+            let Some(source) = self.source_of(place) else {
+                return None;
+            };
+            place = source;
+        }
+        None
+    }
+
+    // The place of the claim that raised the one at a place last.
+    fn source_of(&self, place: usize) -> Option<usize> {
+        match self.marks.get(place) {
+            Some(mark) => mark.raised_by,
+            None => None,
+        }
+    }
+
+    // The claim at a place with I raised above all addresses, where I is raised on the cycle of those that raised it.
+    fn lifted(&self, start: usize) -> Option<Claim>
+        requires { HasMet self.now }
+        ensures { IfSome result (λ claim. IsMet self.now.edition self.now.game.now claim × IsProper claim) }
+    {
+        let Some(first) = claim_at(self.claims.as_slice(), start) else {
+            return None;
+        };
+        let mut claim = first.copy();
+        let mut place = start;
+        let mut rises = false;
+        for _ in 0..self.claims.len() {
+            let Some(source) = self.source_of(place) else {
+                return None;
+            };
+            let Some(before) = claim_at(self.claims.as_slice(), source) else {
+                return None;
+            };
+            let Some(shifts) = shift_between(self.edition, self.game, &before, &claim.point) else {
+                return None;
+            };
+            rises |= shifts;
+            claim = before;
+            place = source;
+            if place == start {
+                break;
+            }
+        }
+        if rises && claim.point.order(&first.point).is_eq() {
+            let Claim { point, low, .. } = first;
+            Some(Claim {
+                point,
+                low,
+                high: LAST_ADDRESS as u32 + 1,
+            })
+        } else {
+            None
+        }
+    }
+
     // Meets the start, and what each claim leaves at its next points. Whether something grew.
     fn round(&mut self) -> Result<bool, AllocError>
         requires { HasMet self.old }
         ensures grown { IfOk result (HasGrown self.old self.new) }
         ensures closed { IfOk result (λ grew. grew ≡ false → IsClosed self.old.edition self.old.game.now self.old.claims.items) }
     {
-        let mut grew = self.meet(start_claim())?;
+        let mut grew = self.meet(start_claim(), None)?;
         for place in 0..self.claims.len() {
             if self.follow(place)? {
                 grew = true;
             }
         }
         Ok(grew)
-    }
-
-    // Follows the claims that wait, until none does, or for as many turns as the claims allow. Whether something grew.
-    fn spread(&mut self) -> Result<bool, AllocError>
-        requires { HasMet self.old }
-        ensures { IfOk result (HasGrown self.old self.new) }
-    {
-        let mut grew = false;
-        for _ in 0..self.claims.len().saturating_mul(TURNS) {
-            if self.claims.len() > MOST_LINES {
-                break;
-            }
-            let Some(place) = self.next_waiting() else {
-                break;
-            };
-            if self.follow(place)? {
-                grew = true;
-            }
-        }
-        Ok(grew)
-    }
-
-    // The place of the next claim that waits. It waits no longer.
-    fn next_waiting(&mut self) -> Option<usize>
-        requires { HasMet self.old }
-        ensures { HasGrown self.old self.new false }
-    {
-        let Some(point) = self.waiting.pop_front() else {
-            return None;
-        };
-        match self
-            .claims
-            .as_slice()
-            .binary_search_by(|known| known.point.order(&point))
-        {
-            Ok(place) => Some(place),
-            Err(_) => None,
-        }
     }
 
     // Meets what a claim leaves at its next points. Whether something grew.
@@ -119,108 +252,90 @@ impl Search<'_> {
         ensures followed { IfOk result (λ grew. grew ≡ false → (c : Claim) → Some c ≡ slice_get self.old.claims.items place
             → goes self.old.edition self.old.game.now c ≡ true → IsFollowed self.old.game.now self.old.claims.items c) }
     {
-        let Some(claim) = self.claim_at(place) else {
+        let Some(claim) = claim_at(self.claims.as_slice(), place) else {
             return Ok(false);
         };
-        let Some(instr) = instr_of(self.edition, self.game, &claim) else {
+        let Some((first, second)) = ways_of(self.edition, self.game, &claim) else {
             return Ok(false);
         };
-        let (first, second) = next_points(&instr, &claim.point);
-        let mut grew = self.meet(left_by(&instr, &claim, first))?;
+        let mut grew = self.meet(first, Some(place))?;
         if let Some(second) = second {
-            if self.meet(left_by(&instr, &claim, second))? {
+            if self.meet(second, Some(place))? {
                 grew = true;
             }
         }
         Ok(grew)
     }
 
-    // The claim at a place.
-    fn claim_at(&self, place: usize) -> Option<Claim>
-        ensures { result ≡ slice_get self.now.claims.items place }
-    {
-        match self.claims.get(place) {
-            Some(claim) => Some(claim.copy()),
-            None => None,
-        }
-    }
-
-    // Meets a claim: its point waits where something grew. Whether it did.
-    fn meet(&mut self, claim: Claim) -> Result<bool, AllocError>
-        requires kept { HasMet self.old }
-        requires met { IsMet self.old.edition self.old.game.now claim }
-        requires proper { IsProper claim }
-        ensures grown { IfOk result (HasGrown self.old self.new) }
-        ensures covered { IfOk result (λ grew. grew ≡ false → IsCovered self.old.claims.items claim) }
-    {
-        let Claim { point, .. } = claim.copy();
-        let grew = self.join(claim)?;
-        if grew {
-            self.waiting.push_back(point)?;
-        }
-        Ok(grew)
-    }
-
     // The claim of this point grows to hold this one's range, or this one is the first of its point. Whether something grew.
-    fn join(&mut self, claim: Claim) -> Result<bool, AllocError>
+    fn meet(&mut self, claim: Claim, from: Option<usize>) -> Result<bool, AllocError>
         requires kept { HasMet self.old }
         requires met { IsMet self.old.edition self.old.game.now claim }
         requires proper { IsProper claim }
         ensures grown { IfOk result (HasGrown self.old self.new) }
         ensures covered { IfOk result (λ grew. grew ≡ false → IsCovered self.old.claims.items claim) }
     {
-        match self
-            .claims
-            .as_slice()
-            .binary_search_by(|known| known.point.order(&claim.point))
-        {
-            Ok(place) => Ok(self.claims[place].widen(claim.low, claim.high)),
+        match self.place_of(&claim.point) {
+            Ok(place) => {
+                let raises = self.claims[place].high < claim.high;
+                let grew = self.claims[place].widen(claim.low, claim.high);
+                self.mark(place, grew, raises, from);
+                Ok(grew)
+            }
             Err(place) => {
                 self.claims.insert(place, claim)?;
                 Ok(true)
             }
         }
     }
-}
 
-// The claim of a game's first state.
-fn start_claim() -> Claim
-    ensures { result ≡ start_claim }
-{
-    Claim {
-        point: Point {
-            pc: 0x0200,
-            stack: stack_of(&[]),
-        },
-        low: 0,
-        high: 0,
+    // The place of the claim of a point, or where one would stand in order.
+    fn place_of(&self, point: &Point) -> Result<usize, usize>
+        requires { HasMet self.now }
+        ensures found { IfOk result (IsPlace self.now.claims.items point.now) }
+        ensures none { IfErr result (IsNoPlace self.now.claims.items point.now) }
+    {
+        if let Some(place) = self.noted_place(point) {
+            return Ok(place);
+        }
+        match self
+            .claims
+            .as_slice()
+            .binary_search_by(|known| known.point.order(point))
+        {
+            Ok(place) => Ok(place),
+            Err(place) => Err(place),
+        }
     }
-}
 
-// What a claim leaves at a next point.
-fn left_by(instr: &Instr, claim: &Claim, point: Point) -> Claim
-    ensures { result ≡ left_by instr.now claim.now point }
-{
-    Claim {
-        point,
-        low: low_after(instr, claim).min(LAST_ADDRESS) as u16,
-        high: high_after(instr, claim).min(LAST_ADDRESS + 1) as u32,
+    // The place of the claim of a point as noted, if it is still there.
+    fn noted_place(&self, point: &Point) -> Option<usize>
+        ensures { IfSome result (IsPlace self.now.claims.items point.now) }
+    {
+        let Some(place) = self.places.get(&point.fingerprint()) else {
+            return None;
+        };
+        let Some(claim) = self.claims.get(*place) else {
+            return None;
+        };
+        if claim.point.order(point).is_eq() {
+            Some(*place)
+        } else {
+            None
+        }
     }
-}
 
-// The instruction of a claim that goes on.
-fn instr_of(edition: Edition, game: &[u8], claim: &Claim) -> Option<Instr>
-    ensures { MatchOption result (goes edition game.now claim.now ≡ false)
-        (λ instr. (instr ≡ instr_in game.now claim.now.point.pc) × (goes edition game.now claim.now ≡ true)) }
-{
-    if !is_in_memory(edition, u64::from(claim.point.pc), 2) {
-        return None;
-    }
-    let instr = instr_in(game, claim.point.pc);
-    if is_allowed(&instr, claim.point.stack.as_slice()) {
-        Some(instr)
-    } else {
-        None
+    // A claim that grew waits; where its HI did, it is noted from which.
+    fn mark(&mut self, place: usize, grew: bool, raises: bool, from: Option<usize>)
+        ensures { IsMarked self.old self.new }
+    {
+        let Some(mark) = self.marks.get_mut(place) else {
+            return;
+        };
+        mark.waits = mark.waits || grew;
+        if raises {
+            mark.raised_by = from;
+        }
     }
 }
 
