@@ -1,5 +1,4 @@
 use Rattle.std.proofs.Common.{◌∙◌, ◌++◌, [], ap}
-use Rattle.vip_byte.specs.Text.{newline}
 use Rattle.vip_tools.specs.Help.{note_line}
 use Rattle.vip_tools.proofs.JoinLemmas.{all_joined, one_more}
 use Rattle.vip_tools.proofs.pages.note_lines.Goals as goal
@@ -7,7 +6,7 @@ use Rattle.vip_tools.proofs.pages.note_lines.Goals as goal
 pub loop-note-preserved : goal.loop-note-preserved
 loop-note-preserved c =
     c.in_ok-append.ensures
-    ∙ (ap (λ note. c.loop-note.text.items ++ note ++ newline) c.as_bytes.ensures.value
+    ∙ (ap (λ note. c.loop-note.text.items ++ note_line note) c.as_bytes.ensures.value
     ∙ one_more (λ note. note_line note.now) [] c.args.notes.now c.loop-note.note-index c.loop-note.text.items _ c.loop-note.invariant
     c.loop-note-test.true)
 
