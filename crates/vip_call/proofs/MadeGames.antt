@@ -202,9 +202,9 @@ module _ (seed : ℕ) where
   unfolding cause_in claim_at claims_to start
   later_closed k from to = elim (cases_lt k 1614) [
     | inl early ↦
-      let low = random_low seed k from in
-      rw (inside k (omega (arith, to)), instr_is k, random_at k from early)
-      (plain_closed 1615 k from (omega (arith, early)) _ (plain (random seed k / 65536) (omega (arith, low))))
+        let low = random_low seed k from in
+        rw (inside k (omega (arith, to)), instr_is k, random_at k from early)
+        (plain_closed 1615 k from (omega (arith, early)) _ (plain (random seed k / 65536) (omega (arith, low))))
     | inr late ↦ rw (inside k (omega (arith, to)), instr_is k, jump_at k late to) refl
   ]
 
