@@ -33,7 +33,7 @@ use Rattle.rom_board.proofs.Passed.{NoStop, before_point, no_stop_append, no_sto
 use Rattle.vip_text.specs.Endings.{Ending}
 use Rattle.vip_text.specs.Endings.Ending.{AtLimit}
 use Rattle.vip_text.specs.Screens.{screen_lines}
-use Rattle.vip_text.specs.Traces.{trace_line}
+use Rattle.vip_text.specs.Traces.{plain, trace_line}
 use Rattle.vip_show.specs.Endings.{ending_after}
 use Rattle.vip_words.specs.Spoken.{Spoken}
 use Rattle.vip_words.specs.declared.debug_commands.Command.{Command}
@@ -709,5 +709,5 @@ module _ (e : Edition) (s : Start) (script : List KeyEvent) (begins : is_stop (i
       → state (interpreter_of e) s script (moves_until (begun e s script) t) ≡ b
   found_point late is here =
       ap (λ c. state (interpreter_of e) s script (moves_until (begun e s script) c)) (sym here)
-      ∙ (found e s script begins t late (state (interpreter_of e) s script (moves_until (begun e s script) t)).cycle (λ stop. refl) [] b
+      ∙ (found e s script begins t late (state (interpreter_of e) s script (moves_until (begun e s script) t)).cycle (λ stop. refl) (record { columns = plain; labels = [] }) b
       (last_among (dispatches (events_to (begun e s script) t)) is)).there
