@@ -19,7 +19,7 @@
 enum { LINES = 50, THREADS = 8, CALLS = 10000, GUARD = 16 };
 
 /* A game of two instructions that go round, and the limit in which it comes to 50 dispatch points. */
-static const char words[] = "trace\0g\0" "2036";
+static const char words[] = "trace\0g\0" "8250";
 static const char bytes[] = "g\x60\x02\x70\x03\x12\x02";
 static const struct vip_file game = {0, 1, 1, 6};
 
@@ -44,7 +44,7 @@ static double now(void)
 
 static int speed(char *program, const char *folder)
 {
-    char out[1 << 16], err[256], *arguments[] = {program, "trace", "g", "2036", NULL}, *none[] = {NULL};
+    char out[1 << 16], err[256], *arguments[] = {program, "trace", "g", "8250", NULL}, *none[] = {NULL};
     struct vip_lengths lengths;
     posix_spawn_file_actions_t actions;
     int processes = 200, calls = 20000, lines = 0;

@@ -25,12 +25,12 @@ class Pen(unittest.TestCase):
         cls.keys = [(int(cycle), way, int(key, 16)) for cycle, way, key in events]
 
     def test_when_the_spiral_closes(self):
-        """The spiral of pen.keys is closed in frame 292, in which key 5 stops the game; a frame before it has every dot already."""
+        """The spiral of pen.keys is closed in frame 292, in which key 5 stops the game: its last dot is drawn there."""
         frames = list(vip.Run(self.game, self.keys).frames(400))
         self.assertEqual(len(frames), 292)
         last = frames[-1].run
         self.assertEqual(last.stop, vip.Stop("MachineCall", 0, 0x224))
-        self.assertEqual(frames[-2].run.screen, last.screen)
+        self.assertEqual((frames[-2].run.screen.lit, last.screen.lit), (288, 289))
 
     def test_no_input_stops_it(self):
         """No random script without key 5 stops the game, each of 20 events in two seconds."""
