@@ -1,18 +1,19 @@
 -- The cases that the examples compute.
-use Rattle.std.specs.Prelude.{ℕ, ◌+◌, ◌-◌, ◌/◌, ◌%◌, ◌==◌, ◌&&◌, Bool, true, false, List, [], ◌∷◌, slice_index}
+use Rattle.std.specs.Prelude.{ℕ, ◌+◌, ◌-◌, ◌/◌, ◌%◌, ◌==◌, ◌&&◌, Bool, true, false, List, [], ◌∷◌, map, slice_index}
 use Rattle.machine.specs.Keys.{Event}
 use Rattle.chip8_lang.specs.State.{Lang, first}
 use Rattle.chip8_lang.specs.Step.{step}
 use Rattle.chip8_lang.specs.Step.KeyInput.{Nothing}
-use Rattle.chip8_lang.specs.Timed.{Next, next_point}
+use Rattle.chip8_lang.specs.Timed.{Next, Shown, next_point, timed_run}
 use Rattle.chip8_lang.specs.Timed.Next.{Dispatch, Stopped, Never}
+use Rattle.chip8_lang.specs.Timed.Shown.{Picture, Point, End}
 use Rattle.chip8_lang.specs.Ticks.{ticks}
 use Rattle.chip8_lang.specs.declared.view.Edition.TheVariants.{Usual}
 
--- a game's first state, with VF = FF and VE = 01
+-- a game's first state, with VC = C8, VD = 38, VE = 01 and VF = FF
 abbrev pub sample : List ℕ → Lang
 sample game =
-    record (first Usual game) { v = 0 ∷ 0 ∷ 0 ∷ 0 ∷ 0 ∷ 0 ∷ 0 ∷ 0 ∷ 0 ∷ 0 ∷ 0 ∷ 0 ∷ 0 ∷ 0 ∷ 0x01 ∷ 0xff ∷ [] }
+    record (first Usual game) { v = 0 ∷ 0 ∷ 0 ∷ 0 ∷ 0 ∷ 0 ∷ 0 ∷ 0 ∷ 0 ∷ 0 ∷ 0 ∷ 0 ∷ 0xc8 ∷ 0x38 ∷ 0x01 ∷ 0xff ∷ [] }
 
 -- VX and pc after one step of it
 abbrev pub stepped_once : List ℕ → ℕ → ℕ × ℕ
@@ -33,7 +34,7 @@ next_cycle t game = cycle_of (next_point Usual [] 10000 t (first Usual game))
 
 -- ---- times
 
--- a state at 0200 behind which this opcode comes, with I, V0 to VD 0, VE 01 and VF FF, 5 in the delay timer, 7 in the sound timer and 0300 on the stack
+-- a state at 0200 where this opcode comes, with I, the variables of a sample, 5 in the delay timer, 7 in the sound timer and 0300 on the stack
 abbrev pub state_with : ℕ → ℕ → Lang
 state_with i opcode = record (sample (opcode / 256 ∷ opcode % 256 ∷ [])) { i = i; stack = 0x300 ∷ []; dt = 5; st = 7 }
 
@@ -59,11 +60,21 @@ wait i (row ∷ rows) =
 abbrev pub press : ℕ → ℕ → ℕ → List Event
 press key from to = record { cycle = from; key = key; down = true } ∷ record { cycle = to; key = key; down = false } ∷ []
 
--- the state behind an opcode whose main cycles go over the interrupt in cycle 1092
+-- the state of a next point
 abbrev pub state_of_next : Next → Lang
 state_of_next (Dispatch cycle s) = s
 state_of_next (Stopped cycle s stop) = s
 state_of_next Never = first Usual []
 
-abbrev pub state_behind : ℕ → ℕ → Lang
-state_behind t opcode = state_of_next (next_point Usual [] 10000 t (state_with 0x300 opcode))
+-- the state behind an opcode in cycle t
+abbrev pub state_behind : ℕ → List Event → ℕ → Lang
+state_behind t script opcode = state_of_next (next_point Usual script 10000 t (state_with 0x300 opcode))
+
+-- what a run shows, in short: the cycle of each point, and the frame of each picture
+abbrev pub in_short : Shown → ℕ
+in_short (Picture m screen) = m
+in_short (Point cycle s) = cycle
+in_short (End cycle s stop) = cycle
+
+abbrev pub shown_in_short : List ℕ → ℕ → List ℕ
+shown_in_short game limit = map in_short (timed_run Usual [] limit game)

@@ -1,13 +1,14 @@
 -- One step of the language, and the stops (RCA's manual, "CHIP-8 instructions"). The flag VF is written last. Shifts, the flag of the
 -- logical instructions, the random byte and the stops are this project's profile.
 use Rattle.std.specs.Prelude.{ℕ, zero, suc, ◌+◌, ◌-◌, ◌*◌, ◌/◌, ◌%◌, ◌==◌, ◌||◌, if◌then◌else◌, Bool, false, not, List, [], ◌∷◌, ◌++◌, length, take, drop, slice_index, slice_set, Option, Some, None, bit_and, bit_or, bit_xor}
+use Rattle.machine.specs.Bit.{bit}
 use Rattle.chip8_lang.specs.declared.instr.Instr.{Instr}
 use Rattle.chip8_lang.specs.declared.instr.Instr.TheVariants.{Clear, Return, Machine, Jump, Call, SkipEq, SkipNe, SkipSame, Load, Add, Copy, Or, And, Xor, Sum, Sub, Right, SubN, Left, SkipDiffer, Index, JumpPlus, Random, Draw, SkipDown, SkipUp, GetDelay, WaitKey, SetDelay, SetSound, AddIndex, Font, Decimal, Store, Fetch, Unknown}
 use Rattle.chip8_lang.specs.declared.view.Edition.{Edition}
 use Rattle.chip8_lang.specs.declared.view.Stop.{Stop}
 use Rattle.chip8_lang.specs.declared.view.Stop.TheVariants.{MachineCall, Unknown as UnknownOpcode, FetchOutside, ReadOutside, WriteOutside, StackFull, StackEmpty}
 use Rattle.chip8_lang.specs.Editions.{memory_start, font_start, rows_of}
-use Rattle.chip8_lang.specs.Screen.{Pixels, empty, difference, dots, meets, flag}
+use Rattle.chip8_lang.specs.Screen.{Pixels, empty, difference, dots, meets}
 use Rattle.chip8_lang.specs.State.{Lang, variable, readable_byte, is_in_memory, is_in_font, is_fetchable, instr_at}
 
 -- ---- stops
@@ -137,7 +138,7 @@ done_by e (JumpPlus a) key s = record s { pc = a + variable s 0 }  -- BMMM
 done_by e (Random x k) key s = record (set x (bit_and (random s) k) s) { b = random s }  -- CXKK
 done_by e (Draw x y n) key s =  -- DXYN
     let sprite = drawn e (variable s x % 64) (variable s y % rows_of e) n s in
-    record (next s) { screen = difference s.screen sprite; v = slice_set s.v 15 (flag (meets (rows_of e) s.screen sprite)) }
+    record (next s) { screen = difference s.screen sprite; v = slice_set s.v 15 (bit (meets (rows_of e) s.screen sprite)) }
 done_by e (SkipDown x) key s = skip_if (is_held key) s  -- EX9E
 done_by e (SkipUp x) key s = skip_if (not (is_held key)) s  -- EXA1
 done_by e (GetDelay x) key s = set x s.dt s  -- FX07

@@ -19,11 +19,11 @@ use Rattle.chip8_lang.specs.Ticks.{ticks}
 -- ---- cycles
 
 -- the cycles of an interrupt's routine, and the main cycles between two of them
-abbrev pub routine : ℕ
-routine = 1846
+abbrev pub routine_cycles : ℕ
+routine_cycles = 1846
 
 abbrev pub between_routines : ℕ
-between_routines = frame - routine
+between_routines = frame - routine_cycles
 
 -- from a cycle on, how many there are up to the next interrupt: none where it is that of one
 abbrev pub to_interrupt : ℕ → ℕ
@@ -35,7 +35,7 @@ interrupts t k = (between_routines + k - to_interrupt t) / between_routines
 
 -- the cycle in which it goes on then
 abbrev pub later : ℕ → ℕ → ℕ
-later t k = t + k + routine * interrupts t k
+later t k = t + k + routine_cycles * interrupts t k
 
 -- the cycle in which these k main cycles, one at least, are over, also where an interrupt comes right then
 abbrev pub ended : ℕ → ℕ → ℕ
@@ -43,7 +43,7 @@ ended t k = later t (k - 1) + 1
 
 -- the cycle in which main code goes on that waits for an interrupt from cycle t on
 abbrev pub woken : ℕ → ℕ
-woken t = t + to_interrupt t + routine
+woken t = t + to_interrupt t + routine_cycles
 
 -- ---- instructions
 

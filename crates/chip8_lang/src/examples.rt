@@ -4,7 +4,7 @@
 ghost use Rattle.std.specs.Prelude.{◌≡◌, ◌∷◌, [], Some, None, true, slice_index};
 ghost use Rattle.chip8_lang.specs.Between.{ticks_between};
 ghost use Rattle.chip8_lang.specs.Decode.{instr_of};
-ghost use Rattle.chip8_lang.specs.Samples.{cycle_behind, next_cycle, press, state_behind, state_with, stepped_once, take, ticked_twice, wait};
+ghost use Rattle.chip8_lang.specs.Samples.{cycle_behind, next_cycle, press, shown_in_short, state_behind, state_with, stepped_once, take, ticked_twice, wait};
 ghost use Rattle.chip8_lang.specs.State.{first};
 ghost use Rattle.chip8_lang.specs.Step.{stop_of};
 ghost use Rattle.chip8_lang.specs.Timed.{ended, interrupts, later, woken};
@@ -60,7 +60,8 @@ pub fn times()
     ensures plain { take 0x300 ((0x6005, 86) ∷ (0x7005, 90) ∷ (0x1200, 92) ∷ (0xa123, 92) ∷ (0xf007, 92) ∷ (0x8010, 100) ∷ (0xf015, 104) ∷ (0xb200, 106) ∷ (0x2200, 108) ∷ (0xf018, 110) ∷ (0xc000, 114) ∷ []) ≡ true }
     ensures arithmetic { take 0x300 ((0x8011, 120) ∷ (0x8012, 120) ∷ (0x8013, 120) ∷ (0x8014, 118) ∷ (0x8015, 118) ∷ (0x8016, 118) ∷ (0x8017, 118) ∷ (0x801e, 118) ∷ (0x00ee, 126) ∷ (0xf01e, 126) ∷ (0xf029, 146) ∷ []) ≡ true }
     ensures skips { take 0x300 ((0x3001, 90) ∷ (0x3000, 94) ∷ (0x4000, 90) ∷ (0x4001, 94) ∷ (0x50e0, 96) ∷ (0x5010, 100) ∷ (0x9010, 96) ∷ (0x90e0, 100) ∷ (0xe09e, 94) ∷ (0xe0a1, 104) ∷ []) ≡ true }
-    ensures memory { take 0x300 ((0xf033, 230) ∷ (0xff33, 272) ∷ (0xf055, 206) ∷ (0xf355, 242) ∷ (0xf065, 214) ∷ (0xf365, 250) ∷ []) ≡ true }
+    ensures memory { take 0x300 ((0xf033, 230) ∷ (0xfc33, 242) ∷ (0xff33, 272) ∷ (0xf055, 206) ∷ (0xf355, 242) ∷ (0xf065, 214) ∷ (0xf365, 250) ∷ []) ≡ true }
+    ensures end_of_memory { take 0xe9f ((0xf065, 214) ∷ []) ≡ true }
     ensures font { take 0x8700 ((0xf065, 228) ∷ (0xf365, 264) ∷ []) ≡ true }
     ensures stops { take 0 ((0x0000, 122) ∷ (0x0100, 110) ∷ (0x5001, 112) ∷ (0x9001, 112) ∷ (0x8008, 120) ∷ (0xe000, 120) ∷ (0xf000, 160) ∷ (0xd001, 152) ∷ (0xf065, 206) ∷ (0xf033, 188) ∷ (0xf055, 198) ∷ []) ≡ true }
     ensures behind_memory { take 0xf00 ((0xd001, 170) ∷ (0xf065, 224) ∷ (0xf033, 206) ∷ (0xf055, 216) ∷ []) ≡ true }
@@ -71,9 +72,9 @@ pub fn times()
     ensures full { cycle_behind 56 [] (record (state_with 0 0x2200) { stack = 1 ∷ 2 ∷ 3 ∷ 4 ∷ 5 ∷ 6 ∷ 7 ∷ 8 ∷ 9 ∷ 10 ∷ 11 ∷ 12 ∷ [] }) ≡ 168 }
 {}
 
-/// The display wait: 00E0; sprites of no row, of one row at column 0, 1 and 63, at the bottom edge and of two rows in its last one; and of a byte of the font.
+/// The display wait: 00E0; sprites of no row, of one row at column 0, 1, 56 and 63, at the bottom edge and of two rows in its last one; and of a byte of the font.
 pub fn waits()
-    ensures rows { wait 0x300 ((0x00e0, 102, 770) ∷ (0xd000, 222, 24) ∷ (0xd001, 312, 82) ∷ (0xde01, 324, 82) ∷ (0xdf01, 394, 82) ∷ (0xd0f1, 320, 82) ∷ (0xd0f2, 320, 82) ∷ (0xd002, 352, 140) ∷ []) ≡ true }
+    ensures rows { wait 0x300 ((0x00e0, 102, 770) ∷ (0xd000, 222, 24) ∷ (0xd001, 312, 82) ∷ (0xde01, 324, 82) ∷ (0xdd01, 310, 82) ∷ (0xdf01, 394, 82) ∷ (0xd0f1, 320, 82) ∷ (0xd0f2, 320, 82) ∷ (0xd002, 352, 140) ∷ []) ≡ true }
     ensures font { wait 0x8700 ((0xd001, 326, 82) ∷ []) ≡ true }
 {}
 
@@ -87,19 +88,31 @@ pub fn looks()
     ensures held_on { cycle_behind 56 (press 0 171 176) (state_with 0 0xf00a) ≡ 186 }
     ensures second { cycle_behind 56 (press 1 185 186) (state_with 0 0xf00a) ≡ 196 }
     ensures second_held { cycle_behind 56 (press 1 185 188) (state_with 0 0xf00a) ≡ 198 }
+    ensures key_0_again { cycle_behind 56 (press 0 395 398) (state_with 0 0xf00a) ≡ 408 }
+    ensures key_0 { slice_index (state_behind 56 (press 0 395 398) 0xff0a).v 15 ≡ 0 }
     ensures down { cycle_behind 56 (press 0 147 148) (state_with 0 0xe09e) ≡ 154 }
+    ensures key_f_down { cycle_behind 56 (press 15 147 148) (state_with 0 0xef9e) ≡ 154 }
     ensures not_down { cycle_behind 56 (press 0 153 154) (state_with 0 0xe0a1) ≡ 156 }
+    ensures key_f_not_down { cycle_behind 56 (press 15 153 154) (state_with 0 0xefa1) ≡ 156 }
 {}
 
 /// Which ticks come before a step: one in a cycle of the interrupt comes before CXKK, FX07, FX15 and FX18 where main code has made 91, 87, 101 and 107 main cycles
-/// by then, and else behind them.
+/// by then, and else behind them. Before 00E0 comes the one that it waits for, and one more where the 102 main cycles before its wait aren't over by the first.
 pub fn ticks_before()
-    ensures random { (state_behind 1001 0xc0ff).b ≡ 114 }
-    ensures random_behind { (state_behind 1000 0xc0ff).b ≡ 113 }
-    ensures delay { slice_index (state_behind 1005 0xf007).v 0 ≡ 4 }
-    ensures delay_behind { slice_index (state_behind 1004 0xf007).v 0 ≡ 5 }
-    ensures set_delay { (state_behind 991 0xff15).dt ≡ 255 }
-    ensures set_delay_behind { (state_behind 990 0xff15).dt ≡ 254 }
-    ensures set_sound { (state_behind 985 0xff18).st ≡ 255 }
-    ensures set_sound_behind { (state_behind 984 0xff18).st ≡ 254 }
+    ensures random { (state_behind 1001 [] 0xc0ff).b ≡ 114 }
+    ensures random_behind { (state_behind 1000 [] 0xc0ff).b ≡ 113 }
+    ensures delay { slice_index (state_behind 1005 [] 0xf007).v 0 ≡ 4 }
+    ensures delay_behind { slice_index (state_behind 1004 [] 0xf007).v 0 ≡ 5 }
+    ensures set_delay { (state_behind 991 [] 0xff15).dt ≡ 255 }
+    ensures set_delay_behind { (state_behind 990 [] 0xff15).dt ≡ 254 }
+    ensures set_sound { (state_behind 985 [] 0xff18).st ≡ 255 }
+    ensures set_sound_behind { (state_behind 984 [] 0xff18).st ≡ 254 }
+    ensures clear { (state_behind 990 [] 0x00e0).n ≡ 1 }
+    ensures clear_behind { (state_behind 991 [] 0x00e0).n ≡ 2 }
+{}
+
+/// A run of 00E0, up to its second dispatch point: the first one in cycle 56, the picture of frame 0, and the second one.
+#[tactic(auto, unfolding(crate::specs::Timed::shown_behind, machine::specs::Pictures::windows_ended))]
+pub fn run()
+    ensures clear { shown_in_short (0x00 ∷ 0xe0 ∷ []) 3708 ≡ 56 ∷ 0 ∷ 3708 ∷ [] }
 {}

@@ -17,8 +17,7 @@ use Rattle.std.specs.Char.{is_digit}
 use Rattle.std.specs.Str.Parse.{digits_value}
 use Rattle.vip_byte.specs.Number.{number}
 use Rattle.vip_byte.specs.Reading.{values_of, faults_of, read, ◌>>=◌}
-use Rattle.vip_byte.specs.Text.{is_blank, words}
-use Rattle.vip_keypad.specs.KeyScript.{is_silent}
+use Rattle.vip_byte.specs.Text.{is_blank, is_silent, words}
 use Rattle.chip8_lang.specs.Editions.{memory_start}
 use Rattle.chip8_lang.specs.declared.view.Edition.{Edition}
 use Rattle.game_check.specs.declared.claim.Claim.{Claim}

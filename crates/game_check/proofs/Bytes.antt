@@ -5,10 +5,10 @@ use Rattle.std.specs.Prelude.{nat_lt}
 use Rattle.std.proofs.lemmas.Bool.{and_parts, cases_Bool, cases_lt, eqb-true, ltb-true}
 use Rattle.std.proofs.lemmas.List.{get_or-set_other, get_or_past}
 use Rattle.std.proofs.lemmas.List.Elements.{All-cons, All-nil, All-get_or, All-head, All-set, All-tail}
+use Rattle.machine.specs.Bit.{bit}
 use Rattle.chip8_lang.specs.declared.instr.Instr.{Instr}
 use Rattle.chip8_lang.specs.declared.instr.Instr.TheVariants.{Clear, Load, Machine, Return, SkipDiffer, SkipSame, Unknown}
 use Rattle.chip8_lang.specs.Decode.{arithmetic, instr_of_bytes, key_test, transfer}
-use Rattle.chip8_lang.specs.Screen.{flag}
 use Rattle.chip8_lang.specs.State.{Lang, font, readable_byte}
 use Rattle.chip8_lang.specs.Step.{bytes_from, digits, stored}
 use Rattle.game_check.specs.States.{IsByte}
@@ -73,7 +73,7 @@ take_most zero xs = omega arith
 take_most (suc n) [] = omega arith
 take_most (suc n) (x ∷ xs) = let rest = take_most n xs in omega (arith, rest)
 
-pub flag_byte : (b : Bool) → IsByte (flag b)
+pub flag_byte : (b : Bool) → IsByte (bit b)
 flag_byte true = omega arith
 flag_byte false = omega arith
 

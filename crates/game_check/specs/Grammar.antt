@@ -10,8 +10,7 @@ use Rattle.std.specs.Result.{result_ok}
 use Rattle.std.specs.Str.Lines.{lines}
 use Rattle.vip_byte.specs.Number.{hex_number}
 use Rattle.vip_byte.specs.Reading.{Format, values_of, read, ◌>>=◌}
-use Rattle.vip_byte.specs.Text.{words}
-use Rattle.vip_keypad.specs.KeyScript.{is_silent}
+use Rattle.vip_byte.specs.Text.{is_silent, words}
 use Rattle.game_check.specs.declared.claim.Point.{Point}
 use Rattle.game_check.specs.declared.claim.Claim.{Claim}
 use Rattle.game_check.specs.declared.fault.ProofCause.{ProofCause}

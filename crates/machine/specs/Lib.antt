@@ -1,3 +1,4 @@
+pub mod Bit
 pub mod Bank
 pub mod Opcodes
 pub mod Instruction

@@ -5,7 +5,7 @@ use Rattle.std.specs.Int.{w64, to_be_bytes}
 use Rattle.std.proofs.lemmas.List.{take-append-drop}
 use Rattle.std.proofs.lemmas.Nat.{be_bytes_8}
 use Rattle.chip8_lang.specs.declared.view.Edition.{Edition}
-use Rattle.vip_cpu.specs.Bit.{bit}
+use Rattle.machine.specs.Bit.{bit}
 use Rattle.vip_text.specs.StateFile.{shown, bank_in, bytes_at, cycle_in, file_size, head, edition_byte, IsAccepted}
 use Rattle.rom_board.specs.Saved.{WritesTheSame}
 use Rattle.vip_show.specs.Written.{file_of, head_of, register_bytes}

@@ -15,7 +15,7 @@ use Rattle.chip8_lang.specs.Places.{state_of, most_addresses}
 use Rattle.rom_law.proofs.Places.{addresses_length}
 use Rattle.rom_run.specs.States.{MayStart}
 use Rattle.rom_run.proofs.Starts.{dispatch_starts}
-use Rattle.vip_cpu.specs.Bit.{bit}
+use Rattle.machine.specs.Bit.{bit}
 use Rattle.vip_relation.specs.Follows.{Fits}
 use Rattle.chip8_image.specs.Interpreters.{interpreter_of}
 use Rattle.vip_relation.specs.State.{Start, most_cycles, machine_of}

@@ -6,11 +6,12 @@ use Rattle.machine.specs.Pictures.{frame, interrupt_at}
 use Rattle.machine.specs.Schedule.{Tick}
 use Rattle.chip8_lang.specs.declared.view.Edition.{Edition}
 use Rattle.chip8_lang.specs.Editions.{memory_end}
+use Rattle.chip8_lang.specs.Timed.{routine_cycles}
 use Rattle.rom_law.specs.Rows.{Since, after_tick}
 use Rattle.rom_law.specs.Runs.{Moves}
 use Rattle.rom_rows.specs.Rom.{vip}
 use Rattle.rom_run.specs.Running.{Running}
-use Rattle.rom_parts.specs.timer.Routine.{routine_moves, routine_cycles}
+use Rattle.rom_parts.specs.timer.Routine.{routine_moves}
 use Rattle.rom_parts.specs.timer.Scan.{Scans}
 use Rattle.vip_board.specs.Moves.{moved}
 use Rattle.vip_board.specs.Seen.{Seen, held_by}

@@ -9,6 +9,7 @@ use Rattle.chip8_image.specs.declared.parts.Part.TheVariants.{Timer as IsTimer}
 use Rattle.chip8_lang.specs.declared.view.Edition.{Edition}
 use Rattle.chip8_lang.specs.Between.{ticks_between}
 use Rattle.chip8_lang.specs.Bounds.{bound_of}
+use Rattle.chip8_lang.specs.Timed.{routine_cycles}
 use Rattle.rom_law.specs.Program.{Program}
 use Rattle.rom_law.specs.Rows.{Since, Row}
 use Rattle.rom_law.proofs.Kept.{row_runs, row_cycles}
@@ -17,7 +18,7 @@ use Rattle.rom_rows.specs.Rom.{image, vip}
 use Rattle.rom_rows.specs.Table.{pieces}
 use Rattle.rom_parts.specs.timer.Frame.{Makes}
 use Rattle.rom_parts.specs.timer.Frame.Makes.{Runs, Waits, Accepts}
-use Rattle.rom_parts.specs.timer.Routine.{routine_moves, routine_cycles}
+use Rattle.rom_parts.specs.timer.Routine.{routine_moves}
 use Rattle.rom_parts.proofs.timer.Frame.{every_move, keeps_place, keeps_waiting}
 use Rattle.rom_parts.proofs.timer.Interval.{ticks_main, ticks_wait, ticks_served}
 use Rattle.rom_run.proofs.Image.{parts}

@@ -15,6 +15,7 @@ use Rattle.chip8_lang.specs.declared.view.Edition.{Edition}
 use Rattle.chip8_lang.specs.declared.view.Stop.{Stop}
 use Rattle.chip8_lang.specs.Events.{is_dispatch}
 use Rattle.chip8_lang.specs.Step.{stop_of}
+use Rattle.chip8_lang.specs.Timed.{routine_cycles}
 use Rattle.rom_law.specs.Code.{Input, moved}
 use Rattle.rom_law.specs.Program.{Program, code}
 use Rattle.rom_law.specs.Rows.{Since, Row, Outcome, after_main, after_tick}
@@ -28,7 +29,7 @@ use Rattle.rom_rows.specs.Rom.{image, vip}
 use Rattle.rom_rows.specs.Table.{pieces, calm_pieces, waited_pieces}
 use Rattle.rom_parts.specs.timer.Frame.{Makes}
 use Rattle.rom_parts.specs.timer.Frame.Makes.{Runs, Waits, Accepts}
-use Rattle.rom_parts.specs.timer.Routine.{IsTick, routine_moves, routine_cycles}
+use Rattle.rom_parts.specs.timer.Routine.{IsTick, routine_moves}
 use Rattle.rom_parts.proofs.timer.Frame.{case_accepts, case_runs, every_move, keeps_place}
 use Rattle.rom_run.specs.Display.{WritesScreen, RunsMain, SameInterval, AtDisplay, Changes}
 use Rattle.rom_run.specs.Display.AtDisplay.{HasWaited, Writes}

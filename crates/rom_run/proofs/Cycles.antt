@@ -4,8 +4,8 @@ use Rattle.std.proofs.lemmas.Bool.{cases_lt}
 use Rattle.machine.specs.Pictures.{interrupt_at, place, interrupt_place}
 use Rattle.chip8_lang.specs.Bounds.{key_cycles}
 use Rattle.chip8_lang.proofs.Ticks.{ticks_passed}
+use Rattle.chip8_lang.specs.Timed.{routine_cycles}
 use Rattle.rom_parts.specs.timer.Frame.{IsOutside}
-use Rattle.rom_parts.specs.timer.Routine.{routine_cycles}
 
 -- main code runs in cycle c, with n main moves since a dispatch point in cycle `from`
 pub record Passed (from n c : ℕ) : Type 0 where

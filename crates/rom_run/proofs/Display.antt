@@ -3,11 +3,11 @@ use Rattle.std.proofs.Common.{◌≡◌, ℕ, ◌+◌, ◌≤◌, ◌⊎◌, inl
 use Rattle.machine.specs.Board.{Machine}
 use Rattle.machine.specs.Keys.{Event}
 use Rattle.chip8_lang.specs.declared.view.Edition.{Edition}
+use Rattle.chip8_lang.specs.Timed.{routine_cycles}
 use Rattle.rom_law.specs.Rows.{Since, Row}
 use Rattle.rom_rows.specs.Rom.{vip}
 use Rattle.rom_rows.specs.Table.{calm_pieces}
 use Rattle.machine.specs.Pictures.{place, interrupt_place}
-use Rattle.rom_parts.specs.timer.Routine.{routine_cycles}
 use Rattle.rom_run.specs.Display.{Display}
 use Rattle.rom_run.specs.Laws.{Undisturbed, WaitsSoon}
 use Rattle.rom_run.specs.Time.{Timed, Woken, wait_time, since_return, most_changing}

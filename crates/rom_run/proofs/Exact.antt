@@ -9,11 +9,10 @@ use Rattle.chip8_lang.specs.declared.view.Stop.{Stop}
 use Rattle.chip8_lang.specs.Between.{ticks_between}
 use Rattle.chip8_lang.specs.State.{Lang, instr_at}
 use Rattle.chip8_lang.specs.Step.{KeyInput}
-use Rattle.chip8_lang.specs.Timed.{between_routines, to_interrupt, interrupts, later, ended, woken, before_wait, behind_wait}
+use Rattle.chip8_lang.specs.Timed.{between_routines, to_interrupt, interrupts, later, ended, woken, before_wait, behind_wait, routine_cycles}
 use Rattle.chip8_lang.proofs.Ticks.{ticks_counted}
 use Rattle.rom_law.specs.Moments.{is_waiting, takes_by}
 use Rattle.rom_parts.specs.timer.Frame.{IsOutside}
-use Rattle.rom_parts.specs.timer.Routine.{routine_cycles}
 use Rattle.rom_run.specs.Time.{WaitsBy, since_return, since_window}
 use Rattle.rom_run.specs.Time.WaitsBy.{ToClear, ToDraw}
 

@@ -18,7 +18,7 @@ use Rattle.chip8_lang.specs.declared.view.Edition.{Edition}
 use Rattle.chip8_lang.specs.declared.view.Stop.{Stop}
 use Rattle.chip8_lang.specs.Editions.{memory_end, screen_start}
 use Rattle.chip8_lang.specs.State.{Lang, instr_at}
-use Rattle.chip8_lang.specs.Timed.{between_routines, interrupts, later, by_stop, next_point}
+use Rattle.chip8_lang.specs.Timed.{between_routines, interrupts, later, by_stop, next_point, routine_cycles}
 use Rattle.chip8_lang.specs.Timed.Next.{Dispatch, Stopped as NextStopped}
 use Rattle.chip8_lang.specs.Ticks.{ticks}
 use Rattle.chip8_lang.specs.Between.{ticks_between, keys_between}
@@ -48,7 +48,7 @@ use Rattle.rom_rows.proofs.Calm.{row_calm}
 use Rattle.rom_rows.proofs.Waited.{row_joined}
 use Rattle.rom_parts.specs.timer.Frame.{IsOutside, IsMainPlace, Makes}
 use Rattle.rom_parts.specs.timer.Frame.Makes.{Runs, Waits, Accepts}
-use Rattle.rom_parts.specs.timer.Routine.{IsInterrupted, IsTick, routine_moves, routine_cycles}
+use Rattle.rom_parts.specs.timer.Routine.{IsInterrupted, IsTick, routine_moves}
 use Rattle.rom_parts.proofs.timer.Frame.{case_accepts, case_runs, case_waits, every_move, keeps_place, keeps_waiting}
 use Rattle.rom_parts.proofs.timer.Interval.{ticks_main, ticks_wait, ticks_served, keeps_interrupted, embeds_longer, embeds_more}
 use Rattle.rom_run.proofs.Image.{parts}

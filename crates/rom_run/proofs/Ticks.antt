@@ -9,8 +9,8 @@ use Rattle.machine.specs.Pictures.{frame, place, interrupt_place}
 use Rattle.machine.proofs.Runs.{cycle-move}
 use Rattle.chip8_lang.specs.Between.{ticks_between}
 use Rattle.chip8_lang.proofs.Ticks.{ticks_counted}
+use Rattle.chip8_lang.specs.Timed.{routine_cycles}
 use Rattle.rom_parts.specs.timer.Frame.{IsOutside}
-use Rattle.rom_parts.specs.timer.Routine.{routine_cycles}
 use Rattle.rom_run.specs.Time.{Suffices, since_window, most_wait}
 
 -- the last interrupt before c was so long ago

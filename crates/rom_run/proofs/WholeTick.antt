@@ -8,11 +8,12 @@ use Rattle.machine.specs.Run.{after_moves}
 use Rattle.machine.proofs.Runs.{later-move}
 use Rattle.chip8_image.specs.declared.parts.Part.TheVariants.{Timer as IsTimer}
 use Rattle.chip8_lang.specs.declared.view.Edition.{Edition}
+use Rattle.chip8_lang.specs.Timed.{routine_cycles}
 use Rattle.rom_law.specs.Rows.{Since, after_tick}
 use Rattle.rom_law.specs.Runs.{Moves}
 use Rattle.rom_law.proofs.Ahead.{later_cycle}
 use Rattle.rom_rows.specs.Rom.{image, vip}
-use Rattle.rom_parts.specs.timer.Routine.{IsTick, routine_moves, routine_cycles, window_moves}
+use Rattle.rom_parts.specs.timer.Routine.{IsTick, routine_moves, window_moves}
 use Rattle.rom_run.proofs.Image.{parts}
 use Rattle.rom_run.specs.Running.{Outside, Running, Serving}
 use Rattle.rom_run.specs.Running.Running.{InMain, InRoutine}

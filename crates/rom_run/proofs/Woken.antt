@@ -10,7 +10,7 @@ use Rattle.chip8_lang.specs.declared.view.Edition.{Edition}
 use Rattle.chip8_lang.specs.State.{Lang, instr_at}
 use Rattle.chip8_lang.specs.Between.{ticks_between}
 use Rattle.chip8_lang.specs.Step.{KeyInput, stop_of}
-use Rattle.chip8_lang.specs.Timed.{interrupts, later, ended, woken, before_wait, behind_wait}
+use Rattle.chip8_lang.specs.Timed.{interrupts, later, ended, woken, before_wait, behind_wait, routine_cycles}
 use Rattle.rom_law.specs.Code.{is_event}
 use Rattle.rom_law.specs.Moments.{takes_by}
 use Rattle.rom_law.specs.Program.{code}
@@ -32,7 +32,6 @@ use Rattle.rom_rows.specs.Table.Place.{AtTimer, AtKey, AtSprite}
 use Rattle.rom_rows.proofs.Later.{before_ticks}
 use Rattle.rom_rows.proofs.Steps.{stop_ticks}
 use Rattle.rom_rows.proofs.Most.{draw_most}
-use Rattle.rom_parts.specs.timer.Routine.{routine_cycles}
 use Rattle.rom_run.specs.Running.{IsBehind, Interval}
 use Rattle.rom_run.specs.Time.{Spends, WaitsBy, Woken, Timed, wait_time, since_return, since_window, most_changing}
 use Rattle.rom_run.specs.Time.Timed.{Before, Waiting, Behind}

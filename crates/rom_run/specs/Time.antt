@@ -6,11 +6,10 @@ use Rattle.chip8_lang.specs.declared.instr.Instr.TheVariants.{Clear, Draw}
 use Rattle.chip8_lang.specs.declared.view.Edition.{Edition}
 use Rattle.chip8_lang.specs.State.{Lang, instr_at}
 use Rattle.chip8_lang.specs.Bounds.{bound_of}
-use Rattle.chip8_lang.specs.Timed.{interrupts, ended, woken, before_wait}
+use Rattle.chip8_lang.specs.Timed.{interrupts, ended, woken, before_wait, routine_cycles}
 use Rattle.rom_law.specs.Rows.{Since, Row}
 use Rattle.rom_rows.specs.Rom.{vip}
 use Rattle.rom_rows.specs.Table.{calm_pieces, waited_pieces}
-use Rattle.rom_parts.specs.timer.Routine.{routine_cycles}
 
 -- The cycles of the interval: those of main code, those of the routine for each tick, and n in which main code waited.
 abbrev pub Spends : Machine → Since → ℕ → Type 0

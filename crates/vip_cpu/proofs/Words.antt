@@ -2,7 +2,7 @@
 use Rattle.std.proofs.Common.{◌≡◌, ℕ, ◌+◌, ◌*◌, ◌/◌, ◌%◌, ◌<◌, refl, ap, ◌∙◌, arith}
 use Rattle.std.specs.Prelude.{◌==◌, ◌-◌, not, Bool, true, false}
 use Rattle.machine.specs.Bank.{word, value, word_of, up, down}
-use Rattle.vip_cpu.specs.Bit.{bit}
+use Rattle.machine.specs.Bit.{bit}
 use Rattle.vip_cpu.proofs.Banks.{put_get}
 
 pub value_word_of : (a : ℕ) → value (word_of a) ≡ a

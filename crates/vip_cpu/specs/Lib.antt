@@ -1,4 +1,3 @@
-pub mod Bit
 pub mod Parts
 pub mod Cycle
 pub mod Acts

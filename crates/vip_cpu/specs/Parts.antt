@@ -3,7 +3,7 @@ use Rattle.std.specs.Prelude.{true, false}
 use Rattle.machine.specs.Bank.{bank_of}
 use Rattle.machine.specs.Instruction.{Regs}
 use Rattle.vip_cpu.specs.declared.registers.Parts.{Parts}
-use Rattle.vip_cpu.specs.Bit.{bit}
+use Rattle.machine.specs.Bit.{bit}
 
 abbrev pub regs_of : Parts → Regs
 regs_of parts =

@@ -5,7 +5,7 @@ ghost use Rattle.machine.specs.Bank.{get, word_of};
 ghost use Rattle.machine.specs.Instruction.{at, stepped, regs_after_reset};
 ghost use Rattle.machine.specs.Ranges.{FitsRegs};
 ghost use Rattle.vip_cpu.specs.Acts.{Acts};
-ghost use Rattle.vip_cpu.specs.Bit.{bit};
+ghost use Rattle.machine.specs.Bit.{bit};
 ghost use Rattle.vip_cpu.specs.Parts.{regs_of};
 
 use crate::bus::Bus;

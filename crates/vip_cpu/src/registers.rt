@@ -4,7 +4,7 @@ ghost use Rattle.std.specs.Prelude.{◌≡◌, ℕ, ◌+◌, ◌-◌, ◌*◌, �
 ghost use Rattle.machine.specs.Bank.{word, word_of, up, get, put, zeros, bank_of};
 ghost use Rattle.machine.specs.Instruction.{Regs, at, with_reg, stepped, stepped_back, loaded, df_d, regs_after_reset, after_dma, interrupted, branched, long_branched, skipped, returned, marked};
 ghost use Rattle.machine.specs.Ranges.{FitsBank, FitsRegs};
-ghost use Rattle.vip_cpu.specs.Bit.{bit};
+ghost use Rattle.machine.specs.Bit.{bit};
 ghost use Rattle.vip_cpu.specs.Parts.{regs_of};
 
 use std::marker::Model;
@@ -102,7 +102,7 @@ pub struct Registers {
 impl Model for Registers {
     ghost use Rattle.std.specs.Prelude.{◌<◌};
     ghost use Rattle.machine.specs.Instruction.{Regs};
-    ghost use Rattle.vip_cpu.specs.Bit.{bit};
+    ghost use Rattle.machine.specs.Bit.{bit};
 
     ghost Value = { Regs };
 

@@ -1,6 +1,6 @@
 -- The key script: a text whose lines say at which machine cycles keys go down and up (this project's format). std's `lines` are the lines
 -- of a text, and `words` those of a line.
-use Rattle.std.specs.Prelude.{ℕ, ◌-◌, ◌==◌, Bool, true, false, if◌then◌else◌, nat_lt, nat_le, List, [], ◌∷◌, length, slice_get, slice_index, codes, Option, Some, None, Result, Ok, Err, ok_or}
+use Rattle.std.specs.Prelude.{ℕ, ◌-◌, Bool, true, false, if◌then◌else◌, nat_lt, nat_le, List, [], ◌∷◌, length, slice_get, codes, Option, Some, None, Result, Ok, Err, ok_or}
 use Rattle.std.specs.Char.{digit_value, is_digit}
 use Rattle.std.specs.Option.{option_map_or}
 use Rattle.std.specs.Result.{result_ok}
@@ -8,7 +8,7 @@ use Rattle.std.specs.Str.{bytes_eq}
 use Rattle.machine.specs.Keys.{Event}
 use Rattle.vip_byte.specs.Number.{decimal_number, most_cycles}
 use Rattle.vip_byte.specs.Reading.{Format, read, ◌>>=◌}
-use Rattle.vip_byte.specs.Text.{words}
+use Rattle.vip_byte.specs.Text.{is_silent, words}
 use Rattle.vip_keypad.specs.declared.script.ScriptCause.{ScriptCause}
 use Rattle.vip_keypad.specs.declared.script.ScriptCause.TheVariants.{BadLine, BadCycle, BadKey, OutOfOrder, TooMany}
 use Rattle.vip_keypad.specs.declared.script.ScriptFault.{ScriptFault}
@@ -40,11 +40,6 @@ event_of (first ∷ second ∷ third ∷ []) = do
   key ← key_of third
   Ok (record { cycle = cycle; key = key; down = down })
 event_of words = Err BadLine
-
--- no word, or a remark
-abbrev pub is_silent : List (List ℕ) → Bool
-is_silent [] = true
-is_silent (first ∷ others) = slice_index first 0 == 35
 
 -- what a line says: nothing, or one event
 unfoldable pub said : List ℕ → Result (Option Event) ScriptCause

@@ -7,7 +7,7 @@ use Rattle.machine.specs.Bank.{Word, word, word_of, value, Bank, bank_of}
 use Rattle.machine.specs.Instruction.{Regs}
 use Rattle.chip8_lang.specs.declared.view.Edition.{Edition}
 use Rattle.chip8_lang.specs.Editions.{stack_top}
-use Rattle.vip_cpu.specs.Bit.{bit}
+use Rattle.machine.specs.Bit.{bit}
 use Rattle.vip_text.specs.StateFile.{word_at, bank_in, regs_in, IsStack}
 
 -- R2 points into the stack

@@ -4,6 +4,7 @@ use Rattle.std.specs.Prelude.{◌==◌, None}
 use Rattle.std.proofs.lemmas.Bool.{eqb-true, eqb-false}
 use Rattle.std.proofs.lemmas.Nat.{and_le_l}
 use Rattle.machine.specs.Bank.{word, word_of, value}
+use Rattle.machine.specs.Bit.{bit}
 use Rattle.machine.specs.Memory.{read, written}
 use Rattle.machine.specs.Board.{Machine}
 use Rattle.machine.specs.Ranges.{FitsMachine, FitsRom}
@@ -11,7 +12,7 @@ use Rattle.machine.specs.Schedule.{Tick}
 use Rattle.chip8_lang.specs.declared.instr.Instr.TheVariants.{Draw as IsDraw}
 use Rattle.chip8_lang.specs.declared.view.Edition.{Edition}
 use Rattle.chip8_lang.specs.Editions.{screen_start, rows_of, sprite_work}
-use Rattle.chip8_lang.specs.Screen.{Pixels, difference, either, meets, flag, dots}
+use Rattle.chip8_lang.specs.Screen.{Pixels, difference, either, meets, dots}
 use Rattle.chip8_lang.specs.State.{Lang, instr_at, readable_byte}
 use Rattle.chip8_lang.specs.Step.{next, stop_of, sprite_row}
 use Rattle.chip8_lang.specs.Ticks.{tick}
@@ -399,7 +400,7 @@ module _ (e : Edition) (b : Machine) (h : Since) (f : FitsMachine b) where
 
   -- the dots d are drawn
   abbrev drawn_by : Pixels → Lang
-  drawn_by d = record (next (now h)) { screen = difference (now h).screen d; v = slice_set (now h).v 15 (flag (meets (rows_of e) (now h).screen d)) }
+  drawn_by d = record (next (now h)) { screen = difference (now h).screen d; v = slice_set (now h).v 15 (bit (meets (rows_of e) (now h).screen d)) }
 
   pub drawn_comes : Painting (quick sprite_code e) AT_DRAWN (2 * rows) (8 * rows) 0 (lit e rows (now h)) b (now h)
       → h.spent ≡ draw_time e (now h) + 58 * rows + 4 → 1 ≤ h.ticks → RunsBlock (quick sprite_code e) (waited_pieces (quick sprite_code e)) (Drawn, tt) b h
@@ -415,7 +416,7 @@ module _ (e : Edition) (b : Machine) (h : Since) (f : FitsMachine b) where
       runs : stop_of e (now h) ≡ None
       runs = rw (o.draws.inside, o.draws.digit, o.draws.readable) refl
 
-      met : (t : Bool) → not (b.regs.r.rc.lo == 0) ≡ t → put_out ≡ flag t
+      met : (t : Bool) → not (b.regs.r.rc.lo == 0) ≡ t → put_out ≡ bit t
       met true k = omega (arith, few, o.few, f.regs.r.rc.lo, nonzero b.regs.r.rc.lo k)
       met false k = omega (arith, is_zero b.regs.r.rc.lo k)
 

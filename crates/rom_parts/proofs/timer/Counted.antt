@@ -7,7 +7,7 @@ use Rattle.machine.specs.Keys.{Keys}
 use Rattle.machine.specs.Run.{states, after_moves}
 use Rattle.machine.specs.Pictures.{interrupt_at, is_dma, is_dma_in}
 use Rattle.machine.proofs.Runs.{later-move}
-use Rattle.rom_parts.specs.timer.Routine.{routine_cycles}
+use Rattle.chip8_lang.specs.Timed.{routine_cycles}
 use Rattle.rom_parts.specs.timer.Scan.{fetched, is_dma_cycle}
 use Rattle.rom_parts.proofs.timer.Fetched.{move_first, no_case, no_earlier}
 use Rattle.rom_parts.proofs.timer.Frame.{no_dma_in}

@@ -13,6 +13,7 @@ use Rattle.chip8_lang.specs.Editions.{memory_end, stack_top}
 use Rattle.chip8_lang.specs.State.{Lang}
 use Rattle.chip8_lang.specs.Between.{ticks_between, keys_from, keys_between}
 use Rattle.chip8_lang.proofs.Ticks.{ticks_counted}
+use Rattle.chip8_lang.specs.Timed.{routine_cycles}
 use Rattle.rom_law.specs.Holding.{Places, places, Holding}
 use Rattle.rom_law.specs.Program.{Program, KeepsState}
 use Rattle.rom_law.specs.Rows.{Embeds}
@@ -20,7 +21,7 @@ use Rattle.rom_law.proofs.Language.{keys_from_get, last_or_before}
 use Rattle.rom_law.proofs.Places.{holding, stack_most, stack_below}
 use Rattle.rom_rows.specs.Rom.{vip}
 use Rattle.rom_rows.proofs.Bytes.{memory_end_is, stack_top_is}
-use Rattle.rom_parts.specs.timer.Routine.{IsInterrupted, routine_cycles}
+use Rattle.rom_parts.specs.timer.Routine.{IsInterrupted}
 
 -- ---- ticks
 

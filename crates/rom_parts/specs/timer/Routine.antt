@@ -9,6 +9,7 @@ use Rattle.machine.specs.Ranges.{FitsMachine}
 use Rattle.machine.specs.Pictures.{interrupt_at, window_end}
 use Rattle.chip8_lang.specs.declared.view.Edition.{Edition}
 use Rattle.chip8_lang.specs.Editions.{memory_end, variables}
+use Rattle.chip8_lang.specs.Timed.{routine_cycles}
 use Rattle.chip8_image.specs.declared.TheConstants.{ENTRY}
 use Rattle.rom_parts.specs.timer.Frame.{IsMainPlace}
 
@@ -24,12 +25,9 @@ pub record IsInterrupted (e : Edition) (m : ℕ) (b : Machine) : Type 0 where
   pub room : memory_end e + 2 ≤ value b.regs.r.r2
   pub top : value b.regs.r.r2 < variables e
 
--- the moves from that cycle to the return, 1,024 of them DMA cycles, and the machine cycles that they take
+-- the moves from that cycle to the return, 1,024 of them DMA cycles
 abbrev pub routine_moves : ℕ
 routine_moves = 1435
-
-abbrev pub routine_cycles : ℕ
-routine_cycles = 1846
 
 -- the moves from that cycle to the end of the window
 abbrev pub window_moves : ℕ

@@ -1,5 +1,5 @@
 use Rattle.std.proofs.Common.{◌≤◌, arith, Bool, true, false}
-use Rattle.vip_cpu.specs.Bit.{bit}
+use Rattle.machine.specs.Bit.{bit}
 use Rattle.vip_cpu.proofs.registers.Registers.of.Goals as goal
 
 bit-fits : (b : Bool) → bit b ≤ 1

@@ -1,4 +1,4 @@
--- A flag of the code as the number that it is in the registers.
+-- A flag as the number that it is in a register.
 use Rattle.std.specs.Prelude.{ℕ, Bool, true, false}
 
 abbrev pub bit : Bool → ℕ
