@@ -8,3 +8,4 @@ pub mod OnePass
 pub mod Marking
 pub mod Surveys
 pub mod Agrees
+mod Placing

@@ -9,6 +9,7 @@ pub mod Bytes
 pub mod Passes
 pub mod FaultNames
 pub mod Labels
+pub mod Origins
 pub mod Culprits
 pub mod Told
 pub mod Surveys

@@ -107,17 +107,19 @@ impl Assembly {
         self.names.number(name.as_bytes())
     }
 
-    /// The names with their values, for those who need nothing else of it.
-    pub fn into_names(self) -> Symbols
-        ensures { result ≡ self.names }
+    /// The names with their values, and the byte of each address with its line.
+    pub(crate) fn into_parts(self) -> (Symbols, Vec<Option<Cell>>)
+        ensures names { result.0 ≡ self.names }
+        ensures cells { result.1.items ≡ self.cells }
+        ensures count { length result.1.items ≡ 65536 }
     {
         let Assembly {
-            cells: _,
+            cells,
             names,
             addresses: _,
             values: _,
         } = self;
-        names
+        (names, cells)
     }
 
     /// The names with their values, to look one up.

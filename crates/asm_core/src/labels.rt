@@ -95,6 +95,17 @@ impl Labels {
         }
     }
 
+    /// None of them.
+    pub(crate) fn no_lines(&self) -> LinesAt<'_>
+        ensures { result ≡ [] }
+    {
+        LinesAt {
+            labels: self,
+            address: 0,
+            place: self.list.len(),
+        }
+    }
+
     // The place of the first label of an address.
     fn first_at(&self, address: u16) -> usize
         ensures { Leads self.now 0 result address }
