@@ -5,5 +5,7 @@ pub mod WayBack
 pub mod Listing
 pub mod Shown
 pub mod Raw
+pub mod Habits
 pub mod Remedies
+pub mod Comments
 pub mod Told

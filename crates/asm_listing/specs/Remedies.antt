@@ -1,86 +1,157 @@
 -- What to write in place of a culprit that is a habit of other assemblers.
-use Rattle.std.specs.Prelude.{◌==◌, ◌&&◌, ◌||◌, ℕ, Bool, List, [], ◌∷◌, ◌++◌, length, take, drop, codes, slice_index, min, nat_lt, if◌then◌else◌, Option, None, Some, is_ok, option_map}
-use Rattle.std.specs.List.{list_all}
-use Rattle.std.specs.Map.{lookup}
-use Rattle.std.specs.Option.{option_or}
+use Rattle.std.specs.Prelude.{◌+◌, ◌-◌, ◌*◌, ◌%◌, ◌==◌, ◌&&◌, ◌||◌, ℕ, Bool, true, false, List, [], ◌∷◌, ◌++◌, length, take, drop, find, fold, flat_map, codes, slice_index, slice_get, min, nat_le, nat_lt, if◌then◌else◌, Option, None, Some, is_some, option_map, option_and_then, unwrap_or}
+use Rattle.std.specs.List.{list_all, list_any}
+use Rattle.std.specs.Option.{option_map_or, option_or}
 use Rattle.std.specs.Str.{str_eq_ignore_ascii_case}
 use Rattle.std.specs.Char.{is_ascii_digit, is_ascii_hexdigit}
-use Rattle.vip_byte.specs.HexText.{hex2}
+use Rattle.vip_byte.specs.HexText.{hex2, hex4}
 use Rattle.asm_lex.specs.declared.shape.Isa.{Isa}
-use Rattle.asm_lex.specs.declared.shape.Isa.TheVariants.{Cdp1802, Chip8}
+use Rattle.asm_lex.specs.Bytes.{is_name}
 use Rattle.asm_lex.specs.Culprits.{missing_colon}
-use Rattle.asm_lex.specs.Lines.{parsed}
+use Rattle.asm_lex.specs.Parts.{code_of}
+use Rattle.asm_lex.specs.Places.{word_span, operand_spans}
+use Rattle.asm_lex.specs.Spans.{text_at}
 use Rattle.asm_core.specs.declared.fault.AsmCause.{AsmCause}
-use Rattle.asm_core.specs.declared.fault.AsmCause.TheVariants.{BadText, UnknownMnemonic, BadOperand}
+use Rattle.asm_core.specs.declared.fault.AsmCause.TheVariants.{BadText, UnknownMnemonic}
+use Rattle.asm_listing.specs.declared.habits.Class.{Class}
+use Rattle.asm_listing.specs.declared.habits.Class.TheVariants.{Any, Hexadecimal, HexNumber, HexDigit, Digit, Port, Decimal, Binary, Character, Name, Number}
+use Rattle.asm_listing.specs.Habits.{Row, Shape, Words, Between, Holds, rows, octo_rows}
 
--- one or more hexadecimal digits
-abbrev pub are_hex : List ℕ → Bool
-are_hex text = nat_lt 0 (length text) && list_all is_ascii_hexdigit text
+-- the bytes of which a class of texts is made
+abbrev pub is_digit_of : Class → ℕ → Bool
+is_digit_of Port byte = nat_le 49 byte && nat_le byte 55
+is_digit_of Decimal byte = is_ascii_digit byte
+is_digit_of Binary byte = (byte == 48) || (byte == 49)
+is_digit_of _ byte = is_ascii_hexdigit byte
 
--- a text without its last byte, where that is one of two
-abbrev pub before_last : ℕ → ℕ → List ℕ → Option (List ℕ)
-before_last a b [] = None
-before_last a b (first ∷ rest) =
-    if (slice_index (first ∷ rest) (length rest) == a) || (slice_index (first ∷ rest) (length rest) == b) then Some (take (length rest) (first ∷ rest)) else None
+abbrev pub are_digits : Class → List ℕ → Bool
+are_digits class text = nat_lt 0 (length text) && list_all (is_digit_of class) text
 
--- the digits of a hexadecimal number that begins with a decimal digit and ends with H, or begins with `#` or `$`
-abbrev pub digits_if : Bool → List ℕ → Option (List ℕ)
-digits_if holds digits = if holds then Some digits else None
+abbrev pub begins_decimal : List ℕ → Bool
+begins_decimal [] = false
+begins_decimal (byte ∷ rest) = is_ascii_digit byte
 
-abbrev pub digits_before_h : Option (List ℕ) → Option (List ℕ)
-digits_before_h None = None
-digits_before_h (Some digits) = digits_if (are_hex digits && is_ascii_digit (slice_index digits 0)) digits
+-- a text's last byte, and what stands before it
+abbrev pub before_last : List ℕ → List ℕ
+before_last text = take (length text - 1) text
 
-abbrev pub digits_behind_mark : List ℕ → Option (List ℕ)
-digits_behind_mark [] = None
-digits_behind_mark (mark ∷ digits) = digits_if (((mark == 35) || (mark == 36)) && are_hex digits) digits
+abbrev pub last_of : List ℕ → List ℕ
+last_of text = drop (length text - 1) text
 
-unfoldable pub foreign_number : List ℕ → Option (List ℕ)
-foreign_number text = option_map (λ digits. codes "hexadecimal is 0x" ++ digits) (option_or (digits_before_h (before_last 72 104 text)) (digits_behind_mark text))
+-- a digit behind any number of noughts
+abbrev pub is_nought : ℕ → Bool
+is_nought byte = byte == 48
 
--- a character between quotes
-abbrev pub character_of : List ℕ → Option (List ℕ)
-character_of (first ∷ character ∷ last ∷ []) = if (first == 39) && (last == 39) then Some (codes "the character is 0x" ++ hex2 character) else None
-character_of _ = None
+abbrev pub is_one_digit : Class → List ℕ → Bool
+is_one_digit class text = list_all is_nought (before_last text) && are_digits class (last_of text)
 
--- what stands between an opening, in letters of either case, and a parenthesis at the end
-abbrev pub behind_opening : List ℕ → Option (List ℕ) → Option (List ℕ)
-behind_opening opening None = None
-behind_opening opening (Some text) =
-    let count = min (length opening) (length text) in
-    if str_eq_ignore_ascii_case (take count text) opening then Some (drop count text) else None
+unfoldable pub is_of : Isa → Class → List ℕ → Bool
+is_of isa Any text = true
+is_of isa Hexadecimal text = are_digits Hexadecimal text
+is_of isa HexNumber text = are_digits HexNumber text && begins_decimal text
+is_of isa HexDigit text = are_digits HexDigit text && (length text == 1)
+is_of isa Digit text = is_one_digit Digit text
+is_of isa Port text = is_one_digit Port text
+is_of isa Decimal text = are_digits Decimal text
+is_of isa Binary text = are_digits Binary text && nat_le (length text) 16
+is_of isa Character text = length text == 1
+is_of isa Name text = is_name isa text
+is_of isa Number text = begins_decimal text
 
-abbrev pub half_of : List ℕ → Option (List ℕ)
-half_of text =
-    let inner = before_last 41 41 text in
-    option_or (option_map (λ name. codes "the high byte is >" ++ name) (option_or (behind_opening (codes "A.1(") inner) (behind_opening (codes "HIGH(") inner)))
-    (option_map (λ name. codes "the low byte is <" ++ name) (option_or (behind_opening (codes "A.0(") inner) (behind_opening (codes "LOW(") inner)))
+-- a text begins so, in letters of either case, and what stands behind that
+abbrev pub begins : List ℕ → List ℕ → Bool
+begins opening text = str_eq_ignore_ascii_case (take (min (length opening) (length text)) text) opening
 
--- a register without its R: with it the line is read
-abbrev pub with_r : ℕ → List ℕ → List ℕ
-with_r place line = let at = min place (length line) in take at line ++ (82 ∷ drop at line)
+abbrev pub behind_of : List ℕ → List ℕ → List ℕ
+behind_of opening text = drop (min (length opening) (length text)) text
 
-abbrev pub bare_register : Isa → List ℕ → ℕ → List ℕ → Option (List ℕ)
-bare_register Cdp1802 line from (digit ∷ []) =
-    if is_ascii_hexdigit digit && is_ok (parsed Cdp1802 (λ name. None) (with_r from line)) then Some (codes "the register is R" ++ (digit ∷ [])) else None
-bare_register isa line from text = None
+abbrev pub behind_opening : List ℕ → List ℕ → Option (List ℕ)
+behind_opening opening text = if begins opening text then Some (behind_of opening text) else None
 
--- RCA's other names of mnemonics of the CDP1802, and words that aren't needed
-abbrev pub other_names : List (List ℕ × List ℕ)
-other_names =
-    (codes "BGE", codes "here it is BDF") ∷ (codes "BPZ", codes "here it is BDF") ∷ (codes "BM", codes "here it is BNF")
-    ∷ (codes "BL", codes "here it is BNF") ∷ (codes "NBR", codes "here it is SKP") ∷ (codes "NLBR", codes "here it is LSKP")
-    ∷ (codes "RSHL", codes "here it is SHLC") ∷ (codes "RSHR", codes "here it is SHRC") ∷ []
+-- what stands before a closing
+abbrev pub before_closing : List ℕ → List ℕ → Option (List ℕ)
+before_closing closing text =
+    let count = length text - length closing in
+    if str_eq_ignore_ascii_case (drop count text) closing then Some (take count text) else None
 
-abbrev pub names_in : Isa → List (List ℕ × List ℕ)
-names_in Cdp1802 = other_names
-names_in Chip8 = []
+-- a text begins so at some place
+abbrev pub holds : List ℕ → List ℕ → Bool
+holds opening [] = begins opening []
+holds opening (byte ∷ rest) = begins opening (byte ∷ rest) || holds opening rest
 
-unfoldable pub foreign_words : Isa → List (List ℕ × List ℕ)
-foreign_words isa = (codes "END", codes "a source ends with its last line") ∷ (codes "CPU", codes "it isn't named") ∷ names_in isa
+abbrev pub is_one_of : List (List ℕ) → List ℕ → Bool
+is_one_of words text = list_any (str_eq_ignore_ascii_case text) words
 
-unfoldable pub foreign_word : Isa → List ℕ → Option (List ℕ)
-foreign_word isa word = lookup (str_eq_ignore_ascii_case word) (foreign_words isa)
+abbrev pub some_if : Bool → List ℕ → Option (List ℕ)
+some_if test text = if test then Some text else None
+
+-- what a shape finds in a text
+abbrev pub between : Isa → List ℕ → Class → List ℕ → List ℕ → Option (List ℕ)
+between isa opening class closing text =
+    option_and_then (λ middle. some_if (is_of isa class middle) middle) (option_and_then (behind_opening opening) (before_closing closing text))
+
+unfoldable pub found : Isa → Shape → List ℕ → Option (List ℕ)
+found isa (Words words) text = some_if (is_one_of words text) text
+found isa (Between opening class closing) text = between isa opening class closing text
+found isa (Holds opening) text = some_if (holds opening text) text
+
+-- a line's word is one of those of a habit
+abbrev pub is_after : List (List ℕ) → List ℕ → Bool
+is_after [] word = true
+is_after (first ∷ rest) word = is_one_of (first ∷ rest) word
+
+-- a row's habit in a line with this word and this first operand, and with this culprit
+unfoldable pub fits : Isa → List ℕ → List ℕ → List ℕ → Row → Bool
+fits isa word first text row = is_after row.after word && (begins row.behind first && is_some (found isa row.shape text))
+
+-- the value of binary digits, modulo 65536, in as many hexadecimal digits as it needs
+abbrev pub with_digit : ℕ → ℕ → ℕ
+with_digit value digit = (value * 2 + digit % 2) % 65536
+
+abbrev pub binary_value : List ℕ → ℕ
+binary_value digits = fold with_digit 0 digits
+
+abbrev pub binary_text : List ℕ → List ℕ
+binary_text digits = if nat_lt 8 (length digits) then hex4 (binary_value digits) else hex2 (binary_value digits % 256)
+
+-- what a byte of what is said stands for: `@`, `%`, `&`, `^`, `|` and `~` stand for parts of the line
+unfoldable pub piece : List ℕ → List ℕ → List ℕ → ℕ → List ℕ
+piece word rest middle byte =
+    if byte == 64 then middle
+    else if byte == 37 then binary_text middle
+    else if byte == 38 then hex2 (slice_index middle 0)
+    else if byte == 94 then last_of middle
+    else if byte == 124 then word
+    else if byte == 126 then rest
+    else byte ∷ []
+
+unfoldable pub said : Isa → List ℕ → List ℕ → List ℕ → Row → List ℕ
+said isa word first text row =
+    flat_map (piece word (behind_of row.behind first) (unwrap_or (found isa row.shape text) [])) row.says
+
+-- the first habit that fits
+abbrev pub row_that_fits : Isa → AsmCause → List ℕ → List ℕ → List ℕ → Option Row
+row_that_fits isa cause word first text =
+    option_or (find (fits isa word first text) (octo_rows isa cause)) (find (fits isa word first text) (rows isa cause))
+
+unfoldable pub habit : Isa → AsmCause → List ℕ → List ℕ → List ℕ → Option (List ℕ)
+habit isa cause word first text = option_map (said isa word first text) (row_that_fits isa cause word first text)
+
+-- the word and the first operand of a line of at most 255 bytes
+abbrev pub word_in : List ℕ → List ℕ
+word_in line = if nat_le (length line) 255 then text_at line (word_span (code_of line)) else []
+
+abbrev pub first_operand : List ℕ → List ℕ
+first_operand line = if nat_le (length line) 255 then option_map_or (text_at line) (slice_get (operand_spans (code_of line)) 0) [] else []
+
+-- a line of at most 255 bytes
+abbrev pub habit_in : Isa → AsmCause → List ℕ → List ℕ → Option (List ℕ)
+habit_in isa cause line text = if nat_le (length line) 255 then habit isa cause (word_in line) (first_operand line) text else None
+
+-- a culprit of a line is a statement of Octo
+unfoldable pub is_octo : Isa → AsmCause → List ℕ → List ℕ → Bool
+is_octo isa cause line text =
+    nat_le (length line) 255 && is_some (find (fits isa (word_in line) (first_operand line) text) (octo_rows isa cause))
 
 -- a label without its colon
 abbrev pub label_text : List ℕ → Option ℕ → Option (List ℕ)
@@ -91,10 +162,12 @@ abbrev pub not_ascii : List ℕ → Option (List ℕ)
 not_ascii [] = None
 not_ascii (byte ∷ rest) = if nat_lt 127 byte then Some (codes "a line holds ASCII alone") else None
 
--- the remedy of a culprit that stands at the place `from` of a line
-unfoldable pub remedy : Isa → AsmCause → List ℕ → ℕ → List ℕ → Option (List ℕ)
-remedy isa BadText line from text = not_ascii text
-remedy isa UnknownMnemonic line from text = option_or (foreign_word isa text) (label_text text (missing_colon isa line))
-remedy isa BadOperand line from text =
-    option_or (foreign_number text) (option_or (character_of text) (option_or (half_of text) (bare_register isa line from text)))
-remedy isa _ line from text = None
+-- of a culprit that is no habit
+abbrev pub other_remedy : Isa → AsmCause → List ℕ → List ℕ → Option (List ℕ)
+other_remedy isa BadText line text = not_ascii text
+other_remedy isa UnknownMnemonic line text = label_text text (missing_colon isa line)
+other_remedy isa _ line text = None
+
+-- the remedy of a culprit of a line
+unfoldable pub remedy : Isa → AsmCause → List ℕ → List ℕ → Option (List ℕ)
+remedy isa cause line text = option_or (other_remedy isa cause line text) (habit_in isa cause line text)

@@ -1,6 +1,6 @@
 -- The text of every fault of a source.
-use Rattle.std.specs.Prelude.{◌+◌, ◌&&◌, ℕ, Bool, List, [], ◌∷◌, ◌++◌, length, flat_map, codes, decimal, min, nat_le, slice_range, if◌then◌else◌, Option, Some, is_some}
-use Rattle.std.specs.List.{list_any, range_with_len}
+use Rattle.std.specs.Prelude.{◌+◌, ◌&&◌, ℕ, Bool, false, List, [], ◌∷◌, ◌++◌, length, drop, flat_map, codes, decimal, min, nat_le, slice_index, slice_range, if◌then◌else◌, Option, Some, is_some}
+use Rattle.std.specs.List.{count_by, list_any, range_with_len}
 use Rattle.std.specs.Option.{option_map_or}
 use Rattle.vip_byte.specs.HexText.{hex2}
 use Rattle.asm_lex.specs.declared.shape.Isa.{Isa}
@@ -10,7 +10,11 @@ use Rattle.asm_core.specs.FaultNames.{asm_cause_name}
 use Rattle.asm_core.specs.Sources.{line_at}
 use Rattle.asm_core.specs.Told.{told, note_at}
 use Rattle.vip_byte.specs.Text.{newline}
-use Rattle.asm_listing.specs.Remedies.{remedy}
+use Rattle.asm_lex.specs.Bytes.{is_semicolon}
+use Rattle.asm_lex.specs.Parts.{code_of}
+use Rattle.asm_lex.specs.Places.{word_span}
+use Rattle.asm_listing.specs.Comments.{has_comment, is_noted, noted_words, other_note}
+use Rattle.asm_listing.specs.Remedies.{remedy, is_octo}
 
 -- bytes as they stand, those outside 20 to 7E as \xC3
 abbrev pub shown_byte : ℕ → List ℕ
@@ -40,7 +44,7 @@ abbrev pub finding_text : Isa → List ℕ → ℕ → List ℕ → Finding → 
 finding_text isa name number line finding =
     let culprit = bytes_at line finding.place in
     let from = start_at line finding.place in
-    line_text name number (from + 1) (asm_cause_name finding.cause) culprit (remedy isa finding.cause line from culprit)
+    line_text name number (from + 1) (asm_cause_name finding.cause) culprit (remedy isa finding.cause line culprit)
 
 -- an instruction in a comment
 abbrev pub note_text : List ℕ → ℕ → List ℕ → Place → List ℕ
@@ -48,15 +52,54 @@ note_text name number line place =
     line_text name number (start_at line place + 1) (codes "note") (bytes_at line place)
     (Some (codes "a comment: an instruction stands on a line of its own"))
 
--- what is told of one line: its fault, and behind it a note
+-- the note on a comment that is no line of its own
+abbrev pub note_line : List ℕ → ℕ → ℕ → List ℕ → List ℕ
+note_line name number column words =
+    line_text name number column (codes "note") words (Some (codes "a comment: an instruction stands on a line of its own"))
+
+-- the note of what stands behind the byte at a place of a line, where that is a `;`
+abbrev pub note_behind : Isa → List ℕ → ℕ → ℕ → List ℕ → List ℕ
+note_behind isa name number place behind =
+    if is_noted isa behind then note_line name number (place + (word_span (code_of behind)).from + 1) (noted_words behind) else []
+
+unfoldable pub note_at_byte : Isa → List ℕ → ℕ → List ℕ → ℕ → List ℕ
+note_at_byte isa name number line place =
+    if is_semicolon (slice_index line place) then note_behind isa name number (place + 1) (drop (place + 1) line) else []
+
+-- of all comments of a line
+unfoldable pub comment_notes : Isa → List ℕ → ℕ → List ℕ → List ℕ
+comment_notes isa name number line =
+    if has_comment isa line then flat_map (note_at_byte isa name number line) (range_with_len 0 (length line)) else []
+
+-- the notes of a line
+abbrev pub notes_text : Isa → List ℕ → ℕ → List ℕ → Option Place → List ℕ
+notes_text isa name number line note =
+    option_map_or (note_text name number line) (other_note isa line note) [] ++ comment_notes isa name number line
+
+-- what is told of one line: its fault, and behind it its notes
 unfoldable pub told_text : Isa → List ℕ → ℕ → List ℕ → Option Finding → Option Place → List ℕ
 told_text isa name number line finding note =
-    option_map_or (finding_text isa name number line) finding [] ++ option_map_or (note_text name number line) note []
+    option_map_or (finding_text isa name number line) finding [] ++ notes_text isa name number line note
 
 -- of all lines, in their order
-unfoldable pub report_of : Isa → List ℕ → List (List ℕ) → List ℕ
-report_of isa name source =
+unfoldable pub told_lines : Isa → List ℕ → List (List ℕ) → List ℕ
+told_lines isa name source =
     flat_map (λ i. told_text isa name (i + 1) (line_at source i) (told isa source i) (note_at isa source i)) (range_with_len 0 (length source))
+
+-- how many of the first lines have a fault that is a statement of Octo
+abbrev pub is_octo_told : Isa → List ℕ → Option Finding → Bool
+is_octo_told isa line finding = option_map_or (λ (found : Finding). is_octo isa found.cause line (bytes_at line found.place)) finding false
+
+unfoldable pub octo_count : Isa → List (List ℕ) → ℕ → ℕ
+octo_count isa source count = count_by (λ i. is_octo_told isa (line_at source i) (told isa source i)) (range_with_len 0 count)
+
+-- behind the last line, where ten or more are Octo's
+abbrev pub octo_text : List ℕ → ℕ → List ℕ
+octo_text name count =
+    if nat_le 10 count then name ++ (codes ": this looks like Octo: see docs/FIRST_CHIP8.md, From Octo" ++ newline) else []
+
+unfoldable pub report_of : Isa → List ℕ → List (List ℕ) → List ℕ
+report_of isa name source = told_lines isa name source ++ octo_text name (octo_count isa source (length source))
 
 -- a fault is told of some line
 abbrev pub has_told : Isa → List (List ℕ) → Bool

@@ -6,6 +6,8 @@
 //! otherwise its text. The mnemonics are those of RCA's data sheet of the CDP1802; the texts are this project's profile (`docs/SOURCES.md`).
 #![tactic(auto)]
 
+mod comments;
+mod habits;
 mod hex_dump;
 mod instruction;
 mod raw_bytes;

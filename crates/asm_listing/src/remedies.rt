@@ -1,93 +1,109 @@
 //! What to write in place of a habit of other assemblers.
 
-ghost use Rattle.std.specs.Prelude.{◌≡◌, ◌≤◌, drop, length, is_ok, option_map, None, IfOk};
-ghost use Rattle.std.specs.Char.{is_ascii_hexdigit};
+ghost use Rattle.std.specs.Prelude.{◌≡◌, ◌≤◌, ◌++◌, [], drop, take, find, flat_map, length, is_some, map, option_map, slice_index, unwrap_or, IfOk, OnOk};
 ghost use Rattle.std.specs.List.{list_all};
-ghost use Rattle.std.specs.Map.{lookup};
-ghost use Rattle.std.specs.Option.{option_or};
 ghost use Rattle.std.specs.Str.{str_eq_ignore_ascii_case};
+ghost use Rattle.vip_byte.specs.HexText.{hex2};
 ghost use Rattle.asm_lex.specs.Culprits.{missing_colon};
-ghost use Rattle.asm_lex.specs.Lines.{parsed};
-ghost use Rattle.asm_listing.specs.Remedies.{are_hex, before_last, digits_before_h, digits_behind_mark, foreign_number, character_of, behind_opening, half_of, with_r, bare_register, other_names, foreign_word, label_text, not_ascii, remedy};
+ghost use Rattle.asm_listing.specs.Comments.{is_foreign};
+ghost use Rattle.asm_listing.specs.Habits.{row_of, shape_of, rows, octo_rows};
+ghost use Rattle.asm_listing.specs.Remedies.{is_digit_of, are_digits, begins_decimal, before_last, last_of, is_nought, is_one_digit, is_of, begins, behind_of, behind_opening, before_closing, holds, is_one_of, some_if, between, found, is_after, fits, binary_value, binary_text, piece, said, row_that_fits, habit, word_in, first_operand, habit_in, is_octo, label_text, not_ascii, other_remedy, remedy};
 
-use crate::write::join;
+use crate::habits::{Class, Row, Shape, octo_rows, rows};
+use crate::write::{append, join};
 use asm_core::AsmCause;
-use asm_lex::{Isa, Symbols, line, missing_colon};
+use asm_lex::{Isa, is_label, line_spans, missing_colon, text_at};
 use std::alloc::{AllocError, Global};
-use vip_byte::hex2;
+use vip_byte::{hex2, hex4};
 
 /// A remedy, where a culprit is a habit.
 type Remedy = Result<Option<Vec<u8>>, AllocError>;
 
-fn all_hex(text: &[u8]) -> bool
-    ensures { result ≡ list_all is_ascii_hexdigit text.now }
+// Whether a byte is one of which a class of texts is made.
+fn is_digit_of(class: Class, byte: u8) -> bool
+    ensures { result ≡ is_digit_of class byte }
 {
-    text.iter().all(|byte| byte.is_ascii_hexdigit())
-}
-
-fn are_hex(text: &[u8]) -> bool
-    ensures { result ≡ are_hex text.now }
-{
-    !text.is_empty() && all_hex(text)
-}
-
-// A text without its last byte, where that is one of two.
-fn before_last(a: u8, b: u8, text: &[u8]) -> Option<&[u8]>
-    ensures { option_map (λ front. front.now) result ≡ before_last a b text.now }
-{
-    match text {
-        [front @ .., last] if *last == a || *last == b => Some(front),
-        _ => None,
+    match class {
+        Class::Port => b'1' <= byte && byte <= b'7',
+        Class::Decimal => byte.is_ascii_digit(),
+        Class::Binary => byte == b'0' || byte == b'1',
+        _ => byte.is_ascii_hexdigit(),
     }
 }
 
-fn digits_before_h(text: &[u8]) -> Option<&[u8]>
-    ensures { option_map (λ digits. digits.now) result ≡ digits_before_h (before_last 72 104 text.now) }
+fn are_all(class: Class, text: &[u8]) -> bool
+    ensures { result ≡ list_all (is_digit_of class) text.now }
 {
-    match before_last(b'H', b'h', text) {
-        Some(digits) if are_hex(digits) && digits[0].is_ascii_digit() => Some(digits),
-        _ => None,
-    }
-}
-
-fn digits_behind_mark(text: &[u8]) -> Option<&[u8]>
-    ensures { option_map (λ digits. digits.now) result ≡ digits_behind_mark text.now }
-{
-    match text {
-        [b'#' | b'$', digits @ ..] if are_hex(digits) => Some(digits),
-        _ => None,
-    }
-}
-
-#[tactic(auto, unfolding(crate::specs::Remedies::foreign_number))]
-fn foreign_number(alloc: Global, text: &[u8]) -> Remedy
-    ensures { IfOk result (λ remedy. option_map (λ remedy. remedy.items) remedy ≡ foreign_number text.now) }
-{
-    let digits = match digits_before_h(text) {
-        Some(digits) => digits,
-        None => match digits_behind_mark(text) {
-            Some(digits) => digits,
-            None => return Ok(None),
-        },
-    };
-    Ok(Some(join(alloc, b"hexadecimal is 0x", digits)?))
-}
-
-fn character_of(alloc: Global, text: &[u8]) -> Remedy
-    ensures { IfOk result (λ remedy. option_map (λ remedy. remedy.items) remedy ≡ character_of text.now) }
-{
-    match text {
-        [b'\'', character, b'\''] => {
-            Ok(Some(join(alloc, b"the character is 0x", &hex2(*character))?))
+    for byte in text {
+        if !is_digit_of(class, *byte) {
+            return false;
         }
-        _ => Ok(None),
+    }
+    true
+}
+
+fn are_digits(class: Class, text: &[u8]) -> bool
+    ensures { result ≡ are_digits class text.now }
+{
+    !text.is_empty() && are_all(class, text)
+}
+
+fn begins_decimal(text: &[u8]) -> bool
+    ensures { result ≡ begins_decimal text.now }
+{
+    match text {
+        [first, ..] => first.is_ascii_digit(),
+        [] => false,
     }
 }
 
-fn is_opening(opening: &str, text: &[u8]) -> bool
-    ensures { result ≡ str_eq_ignore_ascii_case text.now opening.now }
+fn before_last(text: &[u8]) -> &[u8]
+    ensures { result.now ≡ before_last text.now }
 {
-    text.eq_ignore_ascii_case(opening.as_bytes())
+    &text[..text.len().saturating_sub(1)]
+}
+
+fn last_of(text: &[u8]) -> &[u8]
+    ensures { result.now ≡ last_of text.now }
+{
+    &text[text.len().saturating_sub(1)..]
+}
+
+fn are_noughts(text: &[u8]) -> bool
+    ensures { result ≡ list_all is_nought text.now }
+{
+    text.iter().all(|byte| *byte == b'0')
+}
+
+fn is_one_digit(class: Class, text: &[u8]) -> bool
+    ensures { result ≡ is_one_digit class text.now }
+{
+    are_noughts(before_last(text)) && are_digits(class, last_of(text))
+}
+
+#[tactic(auto, unfolding(crate::specs::Remedies::is_of))]
+fn is_of(isa: Isa, class: Class, text: &[u8]) -> bool
+    ensures { result ≡ is_of isa class text.now }
+{
+    match class {
+        Class::Any => true,
+        Class::Hexadecimal => are_digits(class, text),
+        Class::HexNumber => are_digits(class, text) && begins_decimal(text),
+        Class::HexDigit => are_digits(class, text) && text.len() == 1,
+        Class::Digit => is_one_digit(class, text),
+        Class::Port => is_one_digit(class, text),
+        Class::Decimal => are_digits(class, text),
+        Class::Binary => are_digits(class, text) && text.len() <= 16,
+        Class::Character => text.len() == 1,
+        Class::Name => is_label(isa, text),
+        Class::Number => begins_decimal(text),
+    }
+}
+
+fn is_same(word: &str, text: &[u8]) -> bool
+    ensures { result ≡ str_eq_ignore_ascii_case text.now word.now }
+{
+    text.eq_ignore_ascii_case(word.as_bytes())
 }
 
 fn behind(text: &[u8], count: usize) -> &[u8]
@@ -97,110 +113,308 @@ fn behind(text: &[u8], count: usize) -> &[u8]
     &text[count..]
 }
 
-// What stands between an opening and a parenthesis at the end.
-fn behind_opening<'a>(opening: &str, text: &'a [u8]) -> Option<&'a [u8]>
-    ensures { option_map (λ inner. inner.now) result ≡ behind_opening opening.now (before_last 41 41 text.now) }
+fn before(text: &[u8], count: usize) -> &[u8]
+    requires { count ≤ length text.now }
+    ensures { result.now ≡ take count text.now }
 {
-    let Some(text) = before_last(b')', b')', text) else {
-        return None;
-    };
-    let count = opening.len().min(text.len());
-    if is_opening(opening, &text[..count]) {
-        Some(behind(text, count))
+    &text[..count]
+}
+
+fn begins(opening: &str, text: &[u8]) -> bool
+    ensures { result ≡ begins opening.now text.now }
+{
+    is_same(opening, before(text, opening.len().min(text.len())))
+}
+
+fn behind_of<'a>(opening: &str, text: &'a [u8]) -> &'a [u8]
+    ensures { result.now ≡ behind_of opening.now text.now }
+{
+    behind(text, opening.len().min(text.len()))
+}
+
+fn behind_opening<'a>(opening: &str, text: &'a [u8]) -> Option<&'a [u8]>
+    ensures { option_map (λ rest. rest.now) result ≡ behind_opening opening.now text.now }
+{
+    if begins(opening, text) {
+        Some(behind_of(opening, text))
     } else {
         None
     }
 }
 
-// What stands in either of two ways to write a half.
-fn half<'a>(first: &str, second: &str, text: &'a [u8]) -> Option<&'a [u8]>
-    ensures { option_map (λ inner. inner.now) result
-        ≡ option_or (behind_opening first.now (before_last 41 41 text.now)) (behind_opening second.now (before_last 41 41 text.now)) }
+fn before_closing<'a>(closing: &str, text: &'a [u8]) -> Option<&'a [u8]>
+    ensures { option_map (λ front. front.now) result ≡ before_closing closing.now text.now }
 {
-    match behind_opening(first, text) {
-        Some(inner) => Some(inner),
-        None => behind_opening(second, text),
+    let count = text.len().saturating_sub(closing.len());
+    if is_same(closing, behind(text, count)) {
+        Some(before(text, count))
+    } else {
+        None
     }
 }
 
-fn half_of(alloc: Global, text: &[u8]) -> Remedy
-    ensures { IfOk result (λ remedy. option_map (λ remedy. remedy.items) remedy ≡ half_of text.now) }
+// Whether a text begins so at some place.
+fn holds(opening: &str, text: &[u8]) -> bool
+    ensures { result ≡ holds opening.now text.now }
 {
-    if let Some(name) = half("A.1(", "HIGH(", text) {
-        return Ok(Some(join(alloc, b"the high byte is >", name)?));
+    match text {
+        [] => begins(opening, text),
+        [_, rest @ ..] => begins(opening, text) || holds(opening, rest),
     }
-    if let Some(name) = half("A.0(", "LOW(", text) {
-        return Ok(Some(join(alloc, b"the low byte is <", name)?));
-    }
-    Ok(None)
 }
 
-fn with_r(alloc: Global, place: usize, line: &[u8]) -> Result<Vec<u8>, AllocError>
-    ensures { IfOk result (λ line_with_r. line_with_r.items ≡ with_r place line.now) }
+fn is_one_of(words: &[&str], text: &[u8]) -> bool
+    ensures { result ≡ is_one_of (map (λ word. word.now) words.now) text.now }
 {
-    let at = place.min(line.len());
-    let mut text = Vec::from_slice(alloc, &line[..at])?;
-    text.push(b'R')?;
-    text.extend_from_slice(&line[at..])?;
+    for word in words {
+        if is_same(word, text) {
+            return true;
+        }
+    }
+    false
+}
+
+fn some_if(test: bool, text: &[u8]) -> Option<&[u8]>
+    ensures { option_map (λ text. text.now) result ≡ some_if test text.now }
+{
+    if test { Some(text) } else { None }
+}
+
+fn between<'a>(
+    isa: Isa,
+    opening: &str,
+    class: Class,
+    closing: &str,
+    text: &'a [u8],
+) -> Option<&'a [u8]>
+    ensures { option_map (λ middle. middle.now) result ≡ between isa opening.now class closing.now text.now }
+{
+    let text = before_closing(closing, text)?;
+    let middle = behind_opening(opening, text)?;
+    some_if(is_of(isa, class, middle), middle)
+}
+
+// What a shape finds in a text.
+#[tactic(auto, unfolding(crate::specs::Remedies::found))]
+fn found(isa: Isa, shape: Shape, text: &[u8]) -> Option<&[u8]>
+    ensures { option_map (λ part. part.now) result ≡ found isa (shape_of shape) text.now }
+{
+    match shape {
+        Shape::Words(words) => some_if(is_one_of(words, text), text),
+        Shape::Between(opening, class, closing) => between(isa, opening, class, closing, text),
+        Shape::Holds(piece) => some_if(holds(piece, text), text),
+    }
+}
+
+fn has(isa: Isa, shape: Shape, text: &[u8]) -> bool
+    ensures { result ≡ is_some (found isa (shape_of shape) text.now) }
+{
+    found(isa, shape, text).is_some()
+}
+
+fn is_after(words: &[&str], word: &[u8]) -> bool
+    ensures { result ≡ is_after (map (λ word. word.now) words.now) word.now }
+{
+    match words {
+        [] => true,
+        [_, ..] => is_one_of(words, word),
+    }
+}
+
+#[tactic(auto, unfolding(crate::specs::Remedies::fits))]
+fn fits(isa: Isa, word: &[u8], first: &[u8], text: &[u8], row: Row) -> bool
+    ensures { result ≡ fits isa word.now first.now text.now (row_of row) }
+{
+    is_after(row.after, word) && begins(row.behind, first) && has(isa, row.shape, text)
+}
+
+// The first of some habits that fits.
+fn first_that_fits(isa: Isa, word: &[u8], first: &[u8], text: &[u8], rows: &[Row]) -> Option<Row>
+    ensures { option_map row_of result ≡ find (fits isa word.now first.now text.now) (map row_of rows.now) }
+{
+    for row in rows {
+        if fits(isa, word, first, text, *row) {
+            return Some(*row);
+        }
+    }
+    None
+}
+
+/// Whether a word is a habit, whatever stands behind it.
+pub(crate) fn is_foreign(isa: Isa, word: &[u8]) -> bool
+    ensures { result ≡ is_foreign isa word.now }
+{
+    let habits = rows(isa, AsmCause::UnknownMnemonic);
+    some_fits(isa, &[], &[], word, habits)
+}
+
+fn binary_value(digits: &[u8]) -> u16
+    ensures { result ≡ binary_value digits.now }
+{
+    let mut value = 0u32;
+    for digit in digits {
+        value = (value * 2 + u32::from(*digit % 2)) % 65_536;
+    }
+    value as u16
+}
+
+fn append_binary(text: &mut Vec<u8>, digits: &[u8]) -> Result<(), AllocError>
+    ensures { OnOk result (text.new.items ≡ text.old.items ++ binary_text digits.now) }
+{
+    let value = binary_value(digits);
+    if digits.len() > 8 {
+        append(text, &hex4(value))
+    } else {
+        append(text, &hex2((value % 256) as u8))
+    }
+}
+
+fn code_of_first(text: &[u8]) -> [u8; 2]
+    ensures { result ≡ hex2 (slice_index text.now 0) }
+{
+    match text {
+        [first, ..] => hex2(*first),
+        [] => hex2(0),
+    }
+}
+
+// Appends what a byte of what is said stands for.
+#[tactic(auto, unfolding(crate::specs::Remedies::piece))]
+fn append_piece(
+    text: &mut Vec<u8>,
+    word: &[u8],
+    rest: &[u8],
+    middle: &[u8],
+    byte: u8,
+) -> Result<(), AllocError>
+    ensures { OnOk result (text.new.items ≡ text.old.items ++ piece word.now rest.now middle.now byte) }
+{
+    match byte {
+        b'@' => append(text, middle),
+        b'%' => append_binary(text, middle),
+        b'&' => append(text, &code_of_first(middle)),
+        b'^' => append(text, last_of(middle)),
+        b'|' => append(text, word),
+        b'~' => append(text, rest),
+        _ => append(text, &[byte]),
+    }
+}
+
+fn expand(
+    alloc: Global,
+    word: &[u8],
+    rest: &[u8],
+    middle: &[u8],
+    says: &[u8],
+) -> Result<Vec<u8>, AllocError>
+    ensures { IfOk result (λ text. text.items ≡ flat_map (piece word.now rest.now middle.now) says.now) }
+{
+    let mut text = Vec::new(alloc);
+    for byte in says {
+        append_piece(&mut text, word, rest, middle, *byte)?;
+    }
     Ok(text)
 }
 
-// Whether a line is read where an R stands at a place.
-fn is_read_with_r(alloc: Global, place: usize, bytes: &[u8]) -> Result<bool, AllocError>
-    ensures { IfOk result (λ is_read. is_read ≡ is_ok (parsed Isa.Cdp1802 (λ name. None) (with_r place bytes.now))) }
+fn or_empty(part: Option<&[u8]>) -> &[u8]
+    ensures { result.now ≡ unwrap_or (option_map (λ part. part.now) part.entry) [] }
 {
-    let bytes = with_r(alloc, place, bytes)?;
-    let names = Symbols::new(alloc);
-    Ok(line(Isa::Cdp1802, &names, bytes.as_slice()).is_ok())
+    match part {
+        Some(part) => part,
+        None => &[],
+    }
 }
 
-fn bare_register(alloc: Global, isa: Isa, line: &[u8], from: usize, text: &[u8]) -> Remedy
-    ensures { IfOk result (λ remedy. option_map (λ remedy. remedy.items) remedy ≡ bare_register isa line.now from text.now) }
+#[tactic(auto, unfolding(crate::specs::Remedies::said))]
+fn said(
+    alloc: Global,
+    isa: Isa,
+    word: &[u8],
+    first: &[u8],
+    text: &[u8],
+    row: Row,
+) -> Result<Vec<u8>, AllocError>
+    ensures { IfOk result (λ remedy. remedy.items ≡ said isa word.now first.now text.now (row_of row)) }
 {
-    match (isa, text) {
-        (Isa::Cdp1802, [digit])
-            if digit.is_ascii_hexdigit() && is_read_with_r(alloc, from, line)? => {
-            Ok(Some(join(alloc, b"the register is R", &[*digit])?))
+    let rest = behind_of(row.behind, first);
+    let middle = or_empty(found(isa, row.shape, text));
+    expand(alloc, word, rest, middle, row.says.as_bytes())
+}
+
+// The first habit that fits.
+fn row_that_fits(isa: Isa, cause: AsmCause, word: &[u8], first: &[u8], text: &[u8]) -> Option<Row>
+    ensures { option_map row_of result ≡ row_that_fits isa cause word.now first.now text.now }
+{
+    let octo = octo_rows(isa, cause);
+    match first_that_fits(isa, word, first, text, octo) {
+        Some(row) => Some(row),
+        None => {
+            let habits = rows(isa, cause);
+            first_that_fits(isa, word, first, text, habits)
         }
-        _ => Ok(None),
     }
 }
 
-#[tactic(auto, unfolding(crate::specs::Remedies::foreign_word, crate::specs::Remedies::foreign_words))]
-fn foreign_word(isa: Isa, word: &[u8]) -> Option<&'static str>
-    ensures { option_map (λ text. text.now) result ≡ foreign_word isa word.now }
+#[tactic(auto, unfolding(crate::specs::Remedies::habit))]
+fn habit(alloc: Global, isa: Isa, cause: AsmCause, word: &[u8], first: &[u8], text: &[u8]) -> Remedy
+    ensures { IfOk result (λ remedy. option_map (λ remedy. remedy.items) remedy ≡ habit isa cause word.now first.now text.now) }
 {
-    if word.eq_ignore_ascii_case(b"END") {
-        return Some("a source ends with its last line");
-    }
-    if word.eq_ignore_ascii_case(b"CPU") {
-        return Some("it isn't named");
-    }
-    match isa {
-        Isa::Chip8 => None,
-        Isa::Cdp1802 => other_name(word),
+    match row_that_fits(isa, cause, word, first, text) {
+        Some(row) => Ok(Some(said(alloc, isa, word, first, text, row)?)),
+        None => Ok(None),
     }
 }
 
-// RCA's other names of mnemonics.
-fn other_name(word: &[u8]) -> Option<&'static str>
-    ensures { option_map (λ text. text.now) result ≡ lookup (str_eq_ignore_ascii_case word.now) other_names }
+/// The word of a line; none where it is longer than 255 bytes.
+pub(crate) fn word_in(line: &[u8]) -> &[u8]
+    ensures { result.now ≡ word_in line.now }
 {
-    if word.eq_ignore_ascii_case(b"BGE") || word.eq_ignore_ascii_case(b"BPZ") {
-        Some("here it is BDF")
-    } else if word.eq_ignore_ascii_case(b"BM") || word.eq_ignore_ascii_case(b"BL") {
-        Some("here it is BNF")
-    } else if word.eq_ignore_ascii_case(b"NBR") {
-        Some("here it is SKP")
-    } else if word.eq_ignore_ascii_case(b"NLBR") {
-        Some("here it is LSKP")
-    } else if word.eq_ignore_ascii_case(b"RSHL") {
-        Some("here it is SHLC")
-    } else if word.eq_ignore_ascii_case(b"RSHR") {
-        Some("here it is SHRC")
-    } else {
-        None
+    if line.len() > 255 {
+        return &[];
     }
+    text_at(line, line_spans(line).word)
+}
+
+/// The first operand of a line, where it has one; none where the line is longer than 255 bytes.
+pub(crate) fn first_operand(line: &[u8]) -> &[u8]
+    ensures { result.now ≡ first_operand line.now }
+{
+    if line.len() > 255 {
+        return &[];
+    }
+    let spans = line_spans(line);
+    match spans.operands.as_slice() {
+        [first, ..] => text_at(line, *first),
+        [] => &[],
+    }
+}
+
+fn habit_in(alloc: Global, isa: Isa, cause: AsmCause, line: &[u8], text: &[u8]) -> Remedy
+    ensures { IfOk result (λ remedy. option_map (λ remedy. remedy.items) remedy ≡ habit_in isa cause line.now text.now) }
+{
+    if line.len() > 255 {
+        return Ok(None);
+    }
+    habit(alloc, isa, cause, word_in(line), first_operand(line), text)
+}
+
+// Whether one of some habits fits.
+fn some_fits(isa: Isa, word: &[u8], first: &[u8], text: &[u8], rows: &[Row]) -> bool
+    ensures { result ≡ is_some (find (fits isa word.now first.now text.now) (map row_of rows.now)) }
+{
+    match first_that_fits(isa, word, first, text, rows) {
+        Some(_) => true,
+        None => false,
+    }
+}
+
+/// Whether the culprit of a line is a statement of Octo.
+#[tactic(auto, unfolding(crate::specs::Remedies::is_octo))]
+pub(crate) fn is_octo(isa: Isa, cause: AsmCause, line: &[u8], text: &[u8]) -> bool
+    ensures { result ≡ is_octo isa cause line.now text.now }
+{
+    let octo = octo_rows(isa, cause);
+    line.len() <= 255 && some_fits(isa, word_in(line), first_operand(line), text, octo)
 }
 
 fn label_remedy(alloc: Global, isa: Isa, line: &[u8], word: &[u8]) -> Remedy
@@ -211,16 +425,6 @@ fn label_remedy(alloc: Global, isa: Isa, line: &[u8], word: &[u8]) -> Remedy
     }
     let label = join(alloc, word, b":")?;
     Ok(Some(join(alloc, b"a label is ", label.as_slice())?))
-}
-
-fn word_remedy(alloc: Global, isa: Isa, line: &[u8], word: &[u8]) -> Remedy
-    ensures { IfOk result (λ remedy. option_map (λ remedy. remedy.items) remedy
-        ≡ option_or (foreign_word isa word.now) (label_text word.now (missing_colon isa line.now))) }
-{
-    match foreign_word(isa, word) {
-        Some(text) => Ok(Some(Vec::from_slice(alloc, text.as_bytes())?)),
-        None => label_remedy(alloc, isa, line, word),
-    }
 }
 
 fn ascii_remedy(alloc: Global, text: &[u8]) -> Remedy
@@ -234,38 +438,24 @@ fn ascii_remedy(alloc: Global, text: &[u8]) -> Remedy
     }
 }
 
-fn operand_remedy(alloc: Global, isa: Isa, line: &[u8], from: usize, text: &[u8]) -> Remedy
-    ensures { IfOk result (λ remedy. option_map (λ remedy. remedy.items) remedy ≡
-        option_or (foreign_number text.now) (option_or (character_of text.now) (option_or (half_of text.now) (bare_register isa line.now from text.now)))) }
-{
-    if let Some(remedy) = foreign_number(alloc, text)? {
-        return Ok(Some(remedy));
-    }
-    if let Some(remedy) = character_of(alloc, text)? {
-        return Ok(Some(remedy));
-    }
-    if let Some(remedy) = half_of(alloc, text)? {
-        return Ok(Some(remedy));
-    }
-    bare_register(alloc, isa, line, from, text)
-}
-
-/// The remedy of a culprit that stands at the place `from` of a line, where it is a habit.
-#[tactic(auto, unfolding(crate::specs::Remedies::remedy))]
-pub(crate) fn remedy(
-    alloc: Global,
-    isa: Isa,
-    cause: AsmCause,
-    line: &[u8],
-    from: usize,
-    text: &[u8],
-) -> Remedy
-    ensures { IfOk result (λ found. option_map (λ found. found.items) found ≡ remedy isa cause line.now from text.now) }
+// The remedy of a culprit that is no habit.
+fn other_remedy(alloc: Global, isa: Isa, cause: AsmCause, line: &[u8], text: &[u8]) -> Remedy
+    ensures { IfOk result (λ remedy. option_map (λ remedy. remedy.items) remedy ≡ other_remedy isa cause line.now text.now) }
 {
     match cause {
         AsmCause::BadText => ascii_remedy(alloc, text),
-        AsmCause::UnknownMnemonic => word_remedy(alloc, isa, line, text),
-        AsmCause::BadOperand => operand_remedy(alloc, isa, line, from, text),
+        AsmCause::UnknownMnemonic => label_remedy(alloc, isa, line, text),
         _ => Ok(None),
+    }
+}
+
+/// The remedy of a culprit of a line, where there is one.
+#[tactic(auto, unfolding(crate::specs::Remedies::remedy))]
+pub(crate) fn remedy(alloc: Global, isa: Isa, cause: AsmCause, line: &[u8], text: &[u8]) -> Remedy
+    ensures { IfOk result (λ found. option_map (λ found. found.items) found ≡ remedy isa cause line.now text.now) }
+{
+    match other_remedy(alloc, isa, cause, line, text)? {
+        Some(remedy) => Ok(Some(remedy)),
+        None => habit_in(alloc, isa, cause, line, text),
     }
 }

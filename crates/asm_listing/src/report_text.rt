@@ -1,14 +1,15 @@
 //! The text of every fault of a source, in the form that editors read.
 
-ghost use Rattle.std.specs.Prelude.{◌≡◌, ◌++◌, ◌≤◌, ◌<◌, ℕ, List, [], length, slice_index_or, is_some, None, IfOk, IfErr, OnOk};
+ghost use Rattle.std.specs.Prelude.{◌≡◌, ◌++◌, ◌≤◌, ◌<◌, ℕ, List, [], length, slice_index_or, is_some, if◌then◌else◌, None, IfOk, IfErr, OnOk};
 ghost use Rattle.std.specs.List.{list_any};
 ghost use Rattle.std.specs.Option.{option_map, option_map_or};
 ghost use Rattle.asm_core.specs.Limits.{most_bytes};
 ghost use Rattle.asm_core.specs.Sources.{source_lines};
 ghost use Rattle.asm_core.specs.Told.{AreTold, AreNoted, AgreesWithFaults};
-ghost use Rattle.asm_listing.specs.Told.{shown_byte, shown, line_text, remark_text, start_at, bytes_at, finding_text, note_text, told_text, report_of, has_told};
+ghost use Rattle.asm_listing.specs.Told.{shown_byte, shown, line_text, remark_text, start_at, bytes_at, finding_text, note_text, notes_text, told_text, told_lines, is_octo_told, octo_count, octo_text, report_of, has_told};
 
-use crate::remedies::remedy;
+use crate::comments::{append_comment_notes, other_note};
+use crate::remedies::{is_octo, remedy};
 use crate::write::{append, append_each};
 use asm_core::{AsmFault, Finding, Told, check, next_line};
 use asm_lex::{Isa, Place};
@@ -48,7 +49,7 @@ fn remark_of(alloc: Global, remark: Option<&[u8]>) -> Result<Vec<u8>, AllocError
     Ok(text)
 }
 
-fn append_line(
+pub(crate) fn append_line(
     alloc: Global,
     text: &mut Vec<u8>,
     name: &[u8],
@@ -110,7 +111,7 @@ fn append_finding(
     let from = start_at(line, finding.place);
     let culprit = bytes_at(line, finding.place);
     let says = finding.cause.name();
-    match remedy(alloc, isa, finding.cause, line, from, culprit)? {
+    match remedy(alloc, isa, finding.cause, line, culprit)? {
         Some(remedy) => {
             let remark = Some(remedy.as_slice());
             append_line(alloc, text, name, number, from + 1, says, culprit, remark)
@@ -178,7 +179,24 @@ fn append_note_of(
     }
 }
 
-// The fault of one line, if it is told, and behind it its note.
+// The notes of one line.
+fn append_notes(
+    alloc: Global,
+    text: &mut Vec<u8>,
+    isa: Isa,
+    name: &[u8],
+    number: u32,
+    line: &[u8],
+    note: Option<Place>,
+) -> Result<(), AllocError>
+    ensures { OnOk result (text.new.items ≡ text.old.items ++ notes_text isa name.now number line.now note) }
+{
+    let note = other_note(alloc, isa, line, note);
+    append_note_of(alloc, text, name, number, line, note)?;
+    append_comment_notes(alloc, text, isa, name, number, line)
+}
+
+// The fault of one line, if it is told, and behind it its notes.
 #[tactic(auto, unfolding(crate::specs::Told::told_text))]
 fn append_told(
     alloc: Global,
@@ -193,7 +211,7 @@ fn append_told(
     ensures { OnOk result (text.new.items ≡ text.old.items ++ told_text isa name.now number line.now finding note) }
 {
     append_fault(alloc, text, isa, name, number, line, finding)?;
-    append_note_of(alloc, text, name, number, line, note)
+    append_notes(alloc, text, isa, name, number, line, note)
 }
 
 /// What is told of a source.
@@ -223,7 +241,7 @@ fn text_of(
     requires text { length text.now ≤ most_bytes }
     requires told { AreTold isa (source_lines text.now) told.now.findings.items }
     requires noted { AreNoted isa (source_lines text.now) told.now.notes.items }
-    ensures { IfOk result (λ report. report.items ≡ report_of isa name.now (source_lines text.now)) }
+    ensures { IfOk result (λ report. report.items ≡ told_lines isa name.now (source_lines text.now)) }
 {
     let findings = told.findings.as_slice();
     let notes = told.notes.as_slice();
@@ -249,6 +267,77 @@ fn text_of(
     Ok(report)
 }
 
+fn is_octo_told(isa: Isa, line: &[u8], finding: Option<Finding>) -> bool
+    ensures { result ≡ is_octo_told isa line.now finding }
+{
+    match finding {
+        Some(finding) => is_octo(isa, finding.cause, line, bytes_at(line, finding.place)),
+        None => false,
+    }
+}
+
+fn one_if(test: bool) -> u32
+    ensures value { result ≡ (if test then 1 else 0) }
+    ensures most { result ≤ 1 }
+{
+    if test { 1 } else { 0 }
+}
+
+// How many faults are statements of Octo.
+fn octo_count(isa: Isa, text: &[u8], told: &Told) -> u32
+    requires text { length text.now ≤ most_bytes }
+    requires told { AreTold isa (source_lines text.now) told.now.findings.items }
+    ensures { result ≡ octo_count isa (source_lines text.now) (length (source_lines text.now)) }
+{
+    let findings = told.findings.as_slice();
+    let mut count: u32 = 0;
+    let mut number: u32 = 0;
+    let mut rest = text;
+    while let Some((line, more)) = next_line(rest) {
+        let finding = told_at(findings, number as usize);
+        count += one_if(is_octo_told(isa, line, finding));
+        number += 1;
+        rest = more;
+    }
+    count
+}
+
+fn append_octo(text: &mut Vec<u8>, name: &[u8], count: u32) -> Result<(), AllocError>
+    ensures { OnOk result (text.new.items ≡ text.old.items ++ octo_text name.now count) }
+{
+    if count >= 10 {
+        append_each(
+            text,
+            &[
+                name,
+                b": this looks like Octo: see docs/FIRST_CHIP8.md, From Octo",
+                b"\n",
+            ],
+        )
+    } else {
+        Ok(())
+    }
+}
+
+// What is told of all lines, and behind it that they look like Octo's.
+#[tactic(auto, unfolding(crate::specs::Told::report_of))]
+fn whole_text(
+    alloc: Global,
+    isa: Isa,
+    name: &[u8],
+    text: &[u8],
+    told: &Told,
+) -> Result<Vec<u8>, AllocError>
+    requires text { length text.now ≤ most_bytes }
+    requires told { AreTold isa (source_lines text.now) told.now.findings.items }
+    requires noted { AreNoted isa (source_lines text.now) told.now.notes.items }
+    ensures { IfOk result (λ report. report.items ≡ report_of isa name.now (source_lines text.now)) }
+{
+    let mut report = text_of(alloc, isa, name, text, told)?;
+    append_octo(&mut report, name, octo_count(isa, text, told))?;
+    Ok(report)
+}
+
 fn is_any_told(found: &[Option<Finding>]) -> bool
     ensures { result ≡ list_any (λ finding. is_some finding) found.now }
 {
@@ -270,7 +359,7 @@ pub fn report(alloc: Global, isa: Isa, name: &[u8], text: &[u8]) -> Result<Check
     ensures memory { IfErr result (λ fault. fault ≡ AsmFault.NoMemory) }
 {
     let told = check(alloc, isa, text)?;
-    match text_of(alloc, isa, name, text, &told) {
+    match whole_text(alloc, isa, name, text, &told) {
         Ok(text) => Ok(CheckText {
             text,
             faulty: has_told(told.findings.as_slice()),

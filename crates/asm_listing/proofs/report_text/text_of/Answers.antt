@@ -4,7 +4,7 @@ use Rattle.std.specs.List.{range_with_len}
 use Rattle.asm_core.specs.Sources.{source_lines, line_at}
 use Rattle.asm_core.specs.Told.{told, note_at}
 use Rattle.asm_core.proofs.PassOne.{line_here, no_line}
-use Rattle.asm_listing.specs.Told.{told_text, report_of}
+use Rattle.asm_listing.specs.Told.{told_text, told_lines}
 use Rattle.asm_listing.proofs.Listings.{texts-more}
 use Rattle.asm_listing.proofs.report_text.text_of.Goals as goal
 
@@ -42,7 +42,7 @@ loop-line-preserved c =
     }
 
 pub returns : goal.returns
-unfolding report_of
+unfolding told_lines
 returns c =
     let source = source_lines c.args.text.now in
     let all = no_line source c.loop-line.number (sym c.loop-line.invariant.rest ∙ c.in_default.ensures.lines) c.loop-line.invariant.inside in

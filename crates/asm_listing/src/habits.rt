@@ -1,0 +1,526 @@
+//! The habits of other assemblers and languages, as rows of tables: what is sought, and what is said where it is found.
+
+ghost use Rattle.std.specs.Prelude.{◌≡◌, map};
+ghost use Rattle.asm_listing.specs.Habits.{row_of, rows, octo_rows, octo_statements, processor_rows, game_rows, words, operands, labels, ranges, undefined, targets, octo_words, game_words, octo_labels, game_labels, game_operands, game_ranges, game_undefined};
+
+use asm_core::AsmCause;
+use asm_lex::Isa;
+
+/// What the middle of a text has to be.
+#[derive(Clone, Copy)]
+pub(crate) enum Class {
+    /// Whatever it is.
+    Any,
+    /// Hexadecimal digits, one or more.
+    Hexadecimal,
+    /// Hexadecimal digits, the first of them decimal.
+    HexNumber,
+    /// One hexadecimal digit.
+    HexDigit,
+    /// One hexadecimal digit behind any number of noughts.
+    Digit,
+    /// A digit from 1 to 7 behind any number of noughts.
+    Port,
+    /// Decimal digits, one or more.
+    Decimal,
+    /// Up to 16 digits 0 and 1.
+    Binary,
+    /// One byte.
+    Character,
+    /// What may be a label.
+    Name,
+    /// What begins with a decimal digit.
+    Number,
+}
+
+/// What a text has to be, its letters of either case.
+#[derive(Clone, Copy)]
+pub(crate) enum Shape {
+    /// One of these words.
+    Words(&'static [&'static str]),
+    /// What begins and ends so, with such a text between.
+    Between(&'static str, Class, &'static str),
+    /// What has this in it.
+    Holds(&'static str),
+}
+
+/// A habit. What is said has for `@` what stands between, or the whole culprit, for `%` its value as a binary number, for `&` the code of its first
+/// byte, for `^` its last byte, for `|` the line's word, and for `~` the first operand behind what it has to begin with.
+#[derive(Clone, Copy)]
+pub(crate) struct Row {
+    /// The words of a line in which it is sought, or none for any.
+    pub after: &'static [&'static str],
+    /// What the culprit has to be.
+    pub shape: Shape,
+    /// What the first operand has to begin with.
+    pub behind: &'static str,
+    /// What is said.
+    pub says: &'static str,
+}
+
+/// The words of the CDP1802 that take no operand.
+#[rattlefmt::skip]
+const BARE: &[&str] = &["IDL", "LDX", "LDXA", "STXD", "IRX", "RET", "DIS", "SAV", "MARK", "REQ", "SEQ", "NOP", "ADC", "ADD", "SDB", "SD", "SMB", "SM", "OR", "AND", "XOR", "SHR", "SHRC", "SHL", "SHLC", "SKP", "LSKP", "LSQ", "LSNQ", "LSZ", "LSNZ", "LSDF", "LSNF", "LSIE"];
+
+/// Those that take a register.
+#[rattlefmt::skip]
+const REGISTERS: &[&str] = &["LDN", "LDA", "STR", "INC", "DEC", "GLO", "GHI", "PLO", "PHI", "SEP", "SEX"];
+
+/// Those that take a port.
+#[rattlefmt::skip]
+const PORTS: &[&str] = &["OUT", "INP"];
+
+/// Those that take a byte.
+#[rattlefmt::skip]
+const BYTES: &[&str] = &["LDI", "ORI", "ANI", "XRI", "ADI", "SDI", "SMI", "ADCI", "SDBI", "SMBI", "DB"];
+
+/// Those that take one expression.
+#[rattlefmt::skip]
+const SINGLE: &[&str] = &["LDI", "ORI", "ANI", "XRI", "ADI", "SDI", "SMI", "ADCI", "SDBI", "SMBI", "BR", "BQ", "BZ", "BDF", "BNQ", "BNZ", "BNF", "B1", "B2", "B3", "B4", "BN1", "BN2", "BN3", "BN4", "LBR", "LBQ", "LBZ", "LBDF", "LBNQ", "LBNZ", "LBNF", "ORG", "EQU", "DS"];
+
+/// The words of CHIP-8 that take a byte.
+#[rattlefmt::skip]
+const GAME_BYTES: &[&str] = &["LD", "ADD", "SE", "SNE", "RND", "DB"];
+
+/// Of the words of other assemblers and processors.
+#[rattlefmt::skip]
+static WORDS: [Row; 29] = [
+    Row { after: &[], shape: Shape::Words(&["BGE", "BPZ"]), behind: "", says: "here it is BDF" },
+    Row { after: &[], shape: Shape::Words(&["BM", "BL"]), behind: "", says: "here it is BNF" },
+    Row { after: &[], shape: Shape::Words(&["NBR"]), behind: "", says: "here it is SKP" },
+    Row { after: &[], shape: Shape::Words(&["NLBR"]), behind: "", says: "here it is LSKP" },
+    Row { after: &[], shape: Shape::Words(&["RSHL"]), behind: "", says: "here it is SHLC" },
+    Row { after: &[], shape: Shape::Words(&["RSHR"]), behind: "", says: "here it is SHRC" },
+    Row { after: &[], shape: Shape::Words(&["HLT", "HALT"]), behind: "", says: "here it is IDL" },
+    Row { after: &[], shape: Shape::Words(&["SUB"]), behind: "", says: "here it is SM, with a number SMI" },
+    Row { after: &[], shape: Shape::Words(&["BYTE", "FCB", "FCC", "DC", "TEXT", "ASCII", "DEFB", "DEFM", ".BYTE", ".DB", ".TEXT", ".ASCII"]), behind: "", says: "here it is DB, with numbers" },
+    Row { after: &[], shape: Shape::Words(&["WORD", "FDB", "ADDR", "DEFW", ".WORD", ".DW"]), behind: "", says: "here it is DW" },
+    Row { after: &[], shape: Shape::Words(&["BLK", "RMB", "BSS", "DEFS", "RES", ".BLOCK", ".DS"]), behind: "", says: "here it is DS" },
+    Row { after: &[], shape: Shape::Words(&["=", "SET", ".EQU", ".SET"]), behind: "", says: "here it is EQU" },
+    Row { after: &[], shape: Shape::Words(&[".ORG"]), behind: "", says: "here it is ORG" },
+    Row { after: &[], shape: Shape::Between("", Class::Name, ""), behind: "= ", says: "EQU with a label: @: EQU ~" },
+    Row { after: &[], shape: Shape::Between("", Class::Name, ""), behind: "SET ", says: "EQU with a label: @: EQU ~" },
+    Row { after: &[], shape: Shape::Between("", Class::Name, ""), behind: ".EQU ", says: "EQU with a label: @: EQU ~" },
+    Row { after: &[], shape: Shape::Words(&["CALL", "RETN", "SCAL", "SRET", "JSR", "BSR", "RTS", "GOSUB"]), behind: "", says: "no instruction of the 1802: a call is by SEP or a routine of your own, docs/FIRST_1802.md" },
+    Row { after: &[], shape: Shape::Words(&["JMP", "JUMP", "BRA", "GOTO"]), behind: "", says: "no instruction of the 1802: BR, or LBR to another page" },
+    Row { after: &[], shape: Shape::Words(&["MOV", "MVI", "LXI", "STA", "LDAA", "STAA", "PUSH", "POP", "CMP", "CPI", "CLR", "NOP2"]), behind: "", says: "no instruction of the 1802" },
+    Row { after: &[], shape: Shape::Words(&["RLDI", "RLXA", "RSXD", "RNX", "DBNZ", "LDC", "GEC", "STPC", "DTC", "STM", "ETQ", "XIE", "XID", "CIE", "CID"]), behind: "", says: "an instruction of the 1804, and none of the 1802" },
+    Row { after: &[], shape: Shape::Words(&["CLS", "SYS", "JP", "SE", "SNE", "LD", "SUBN", "RND", "DRW", "SKNP"]), behind: "", says: "a word of CHIP-8, for --chip8" },
+    Row { after: &[], shape: Shape::Words(&["CPU", "TITLE", "END", "LIST", "NOLIST", "EJECT", "PRINT"]), behind: "", says: "delete the line" },
+    Row { after: &[], shape: Shape::Words(&["INCLUDE", "#INCLUDE"]), behind: "", says: "put the lines of that file here" },
+    Row { after: &[], shape: Shape::Words(&["MACRO", "ENDM", "IF", "ELSE", "ENDIF"]), behind: "", says: "there are no macros and no conditions" },
+    Row { after: &[], shape: Shape::Between("..", Class::Any, ""), behind: "", says: "a comment begins with ;" },
+    Row { after: &[], shape: Shape::Between("//", Class::Any, ""), behind: "", says: "a comment begins with ;" },
+    Row { after: &[], shape: Shape::Between("*", Class::Any, ""), behind: "", says: "a comment begins with ;" },
+    Row { after: &[], shape: Shape::Between("#", Class::Any, ""), behind: "", says: "a comment begins with ;" },
+    Row { after: &[], shape: Shape::Holds("="), behind: "", says: "EQU with a label: SP: EQU 2" },
+];
+
+/// Of the operands of the CDP1802.
+#[rattlefmt::skip]
+static OPERANDS: [Row; 78] = [
+    Row { after: &[], shape: Shape::Holds(" .."), behind: "", says: "a comment begins with ;" },
+    Row { after: &[], shape: Shape::Holds(" //"), behind: "", says: "a comment begins with ;" },
+    Row { after: &[], shape: Shape::Holds(" *"), behind: "", says: "a comment begins with ;" },
+    Row { after: &[], shape: Shape::Holds(" #"), behind: "", says: "a comment begins with ;" },
+    Row { after: &[], shape: Shape::Between("..", Class::Any, ""), behind: "", says: "a comment begins with ;" },
+    Row { after: &[], shape: Shape::Between("//", Class::Any, ""), behind: "", says: "a comment begins with ;" },
+    Row { after: BARE, shape: Shape::Between("*", Class::Any, ""), behind: "", says: "a comment begins with ;" },
+    Row { after: BARE, shape: Shape::Between("# ", Class::Any, ""), behind: "", says: "a comment begins with ;" },
+    Row { after: &[], shape: Shape::Between("V", Class::HexDigit, ""), behind: "", says: "V@ is a register of CHIP-8, for --chip8" },
+    Row { after: &["ADD"], shape: Shape::Between("", Class::Any, ""), behind: "", says: "with a number it is ADI" },
+    Row { after: &["ADC"], shape: Shape::Between("", Class::Any, ""), behind: "", says: "with a number it is ADCI" },
+    Row { after: &["SD"], shape: Shape::Between("", Class::Any, ""), behind: "", says: "with a number it is SDI" },
+    Row { after: &["SDB"], shape: Shape::Between("", Class::Any, ""), behind: "", says: "with a number it is SDBI" },
+    Row { after: &["SM"], shape: Shape::Between("", Class::Any, ""), behind: "", says: "with a number it is SMI" },
+    Row { after: &["SMB"], shape: Shape::Between("", Class::Any, ""), behind: "", says: "with a number it is SMBI" },
+    Row { after: &["AND"], shape: Shape::Between("", Class::Any, ""), behind: "", says: "with a number it is ANI" },
+    Row { after: &["OR"], shape: Shape::Between("", Class::Any, ""), behind: "", says: "with a number it is ORI" },
+    Row { after: &["XOR"], shape: Shape::Between("", Class::Any, ""), behind: "", says: "with a number it is XRI" },
+    Row { after: &["LDX"], shape: Shape::Between("", Class::Any, ""), behind: "", says: "with a number it is LDI" },
+    Row { after: BARE, shape: Shape::Between("", Class::Any, ""), behind: "", says: "| takes no operand" },
+    Row { after: PORTS, shape: Shape::Between("", Class::Port, ""), behind: "", says: "the port is ^" },
+    Row { after: PORTS, shape: Shape::Between("#", Class::Port, ""), behind: "", says: "the port is ^" },
+    Row { after: PORTS, shape: Shape::Between("$", Class::Port, ""), behind: "", says: "the port is ^" },
+    Row { after: PORTS, shape: Shape::Between("0x", Class::Port, ""), behind: "", says: "the port is ^" },
+    Row { after: PORTS, shape: Shape::Between("", Class::Port, "H"), behind: "", says: "the port is ^" },
+    Row { after: PORTS, shape: Shape::Between("X'", Class::Port, "'"), behind: "", says: "the port is ^" },
+    Row { after: PORTS, shape: Shape::Between("", Class::Any, ""), behind: "", says: "a port is a digit from 1 to 7" },
+    Row { after: &["LDN"], shape: Shape::Words(&["0", "R0"]), behind: "", says: "LDN has no R0: opcode 00 is IDL" },
+    Row { after: REGISTERS, shape: Shape::Words(&["D"]), behind: "", says: "D is the accumulator, and no register" },
+    Row { after: REGISTERS, shape: Shape::Words(&["10", "R10"]), behind: "", says: "the register is RA, one hexadecimal digit" },
+    Row { after: REGISTERS, shape: Shape::Words(&["11", "R11"]), behind: "", says: "the register is RB, one hexadecimal digit" },
+    Row { after: REGISTERS, shape: Shape::Words(&["12", "R12"]), behind: "", says: "the register is RC, one hexadecimal digit" },
+    Row { after: REGISTERS, shape: Shape::Words(&["13", "R13"]), behind: "", says: "the register is RD, one hexadecimal digit" },
+    Row { after: REGISTERS, shape: Shape::Words(&["14", "R14"]), behind: "", says: "the register is RE, one hexadecimal digit" },
+    Row { after: REGISTERS, shape: Shape::Words(&["15", "R15"]), behind: "", says: "the register is RF, one hexadecimal digit" },
+    Row { after: REGISTERS, shape: Shape::Between("", Class::Digit, ""), behind: "", says: "the register is R^" },
+    Row { after: REGISTERS, shape: Shape::Between("#", Class::Digit, ""), behind: "", says: "the register is R^" },
+    Row { after: REGISTERS, shape: Shape::Between("$", Class::Digit, ""), behind: "", says: "the register is R^" },
+    Row { after: REGISTERS, shape: Shape::Between("0x", Class::Digit, ""), behind: "", says: "the register is R^" },
+    Row { after: REGISTERS, shape: Shape::Between("", Class::Digit, "H"), behind: "", says: "the register is R^" },
+    Row { after: REGISTERS, shape: Shape::Between("X'", Class::Digit, "'"), behind: "", says: "the register is R^" },
+    Row { after: REGISTERS, shape: Shape::Words(REGISTERS), behind: "", says: "a register is missing, R0 to RF" },
+    Row { after: REGISTERS, shape: Shape::Between("R", Class::HexDigit, ""), behind: "", says: "| takes one register" },
+    Row { after: REGISTERS, shape: Shape::Between("", Class::Name, ""), behind: "", says: "registers have no names here: R0 to RF" },
+    Row { after: REGISTERS, shape: Shape::Between("", Class::Any, ""), behind: "", says: "a register is R0 to RF" },
+    Row { after: &["PAGE"], shape: Shape::Between("", Class::Any, ""), behind: "", says: "PAGE takes no operand; for a page of a listing delete the line" },
+    Row { after: &["EQU"], shape: Shape::Words(&["EQU"]), behind: "", says: "EQU with a label and a number: SP: EQU 2" },
+    Row { after: SINGLE, shape: Shape::Between("", Class::Decimal, ""), behind: "", says: "| takes one number" },
+    Row { after: &[], shape: Shape::Between("#", Class::Hexadecimal, ""), behind: "", says: "hexadecimal is 0x@" },
+    Row { after: &[], shape: Shape::Between("$", Class::Hexadecimal, ""), behind: "", says: "hexadecimal is 0x@" },
+    Row { after: &[], shape: Shape::Between("0X", Class::Hexadecimal, ""), behind: "", says: "hexadecimal is 0x@" },
+    Row { after: &[], shape: Shape::Between("X'", Class::Hexadecimal, "'"), behind: "", says: "hexadecimal is 0x@" },
+    Row { after: &[], shape: Shape::Between("%", Class::Binary, ""), behind: "", says: "binary isn't read here: 0x%" },
+    Row { after: &[], shape: Shape::Between("0b", Class::Binary, ""), behind: "", says: "binary isn't read here: 0x%" },
+    Row { after: &[], shape: Shape::Between("B'", Class::Binary, "'"), behind: "", says: "binary isn't read here: 0x%" },
+    Row { after: &[], shape: Shape::Between("", Class::Binary, "B"), behind: "", says: "binary isn't read here: 0x%" },
+    Row { after: &[], shape: Shape::Between("", Class::HexNumber, "H"), behind: "", says: "hexadecimal is 0x@" },
+    Row { after: &[], shape: Shape::Between("", Class::HexNumber, ""), behind: "", says: "hexadecimal is 0x@" },
+    Row { after: &[], shape: Shape::Between("'", Class::Character, "'"), behind: "", says: "the character is 0x&" },
+    Row { after: &[], shape: Shape::Between("\"", Class::Character, "\""), behind: "", says: "the character is 0x&" },
+    Row { after: &[], shape: Shape::Between("'", Class::Any, ""), behind: "", says: "a text is DB with numbers: 0x41 for A" },
+    Row { after: &[], shape: Shape::Between("\"", Class::Any, ""), behind: "", says: "a text is DB with numbers: 0x41 for A" },
+    Row { after: &[], shape: Shape::Between("T'", Class::Any, ""), behind: "", says: "a text is DB with numbers: 0x41 for A" },
+    Row { after: &[], shape: Shape::Between("A.1(", Class::Any, ")"), behind: "", says: "the high byte is >@" },
+    Row { after: &[], shape: Shape::Between("HIGH(", Class::Any, ")"), behind: "", says: "the high byte is >@" },
+    Row { after: &[], shape: Shape::Between("HIGH ", Class::Any, ""), behind: "", says: "the high byte is >@" },
+    Row { after: &[], shape: Shape::Between("", Class::Name, ".1"), behind: "", says: "the high byte is >@" },
+    Row { after: &[], shape: Shape::Between("A.0(", Class::Any, ")"), behind: "", says: "the low byte is <@" },
+    Row { after: &[], shape: Shape::Between("LOW(", Class::Any, ")"), behind: "", says: "the low byte is <@" },
+    Row { after: &[], shape: Shape::Between("LOW ", Class::Any, ""), behind: "", says: "the low byte is <@" },
+    Row { after: &[], shape: Shape::Between("", Class::Name, ".0"), behind: "", says: "the low byte is <@" },
+    Row { after: &[], shape: Shape::Between("*", Class::Any, ""), behind: "", says: "$ is this address" },
+    Row { after: BYTES, shape: Shape::Between("-", Class::Decimal, ""), behind: "", says: "without a sign it is 256-@" },
+    Row { after: &[], shape: Shape::Between("-", Class::Any, ""), behind: "", says: "an expression begins with no sign" },
+    Row { after: &[], shape: Shape::Between("+", Class::Any, ""), behind: "", says: "an expression begins with no sign" },
+    Row { after: &[], shape: Shape::Between("(", Class::Any, ""), behind: "", says: "there are no parentheses" },
+    Row { after: &[], shape: Shape::Between("R", Class::HexDigit, ""), behind: "", says: "R@ is a register, and no number" },
+    Row { after: &[], shape: Shape::Holds(" "), behind: "", says: "an expression has no blanks" },
+];
+
+/// Of the labels of the CDP1802.
+#[rattlefmt::skip]
+static LABELS: [Row; 10] = [
+    Row { after: &[], shape: Shape::Between("..", Class::Any, ""), behind: "", says: "a comment begins with ;" },
+    Row { after: &[], shape: Shape::Between("//", Class::Any, ""), behind: "", says: "a comment begins with ;" },
+    Row { after: &[], shape: Shape::Between("*", Class::Any, ""), behind: "", says: "a comment begins with ;" },
+    Row { after: &[], shape: Shape::Between("#", Class::Any, ""), behind: "", says: "a comment begins with ;" },
+    Row { after: &[], shape: Shape::Holds(" .."), behind: "", says: "a comment begins with ;" },
+    Row { after: &[], shape: Shape::Holds(" //"), behind: "", says: "a comment begins with ;" },
+    Row { after: &[], shape: Shape::Holds(" *"), behind: "", says: "a comment begins with ;" },
+    Row { after: &[], shape: Shape::Holds(" #"), behind: "", says: "a comment begins with ;" },
+    Row { after: &[], shape: Shape::Between("R", Class::HexDigit, ""), behind: "", says: "R@ is a register" },
+    Row { after: &[], shape: Shape::Between("", Class::Name, " "), behind: "", says: "the colon stands directly behind: @:" },
+];
+
+/// Of the values of the CDP1802 that are out of range.
+#[rattlefmt::skip]
+static RANGES: [Row; 4] = [
+    Row { after: BYTES, shape: Shape::Between("", Class::Number, ""), behind: "", says: "a byte is 0 to 255" },
+    Row { after: &[], shape: Shape::Between("<", Class::Any, ""), behind: "", says: "the sum is below 0 or above 65535" },
+    Row { after: &[], shape: Shape::Between(">", Class::Any, ""), behind: "", says: "the sum is below 0 or above 65535" },
+    Row { after: BYTES, shape: Shape::Between("", Class::Any, ""), behind: "", says: "a byte is 0 to 255: <@ is the low byte" },
+];
+
+/// Of the names without a value of the CDP1802.
+#[rattlefmt::skip]
+static UNDEFINED: [Row; 3] = [
+    Row { after: &[], shape: Shape::Between("", Class::Hexadecimal, "H"), behind: "", says: "hexadecimal is 0x@" },
+    Row { after: &[], shape: Shape::Between("V", Class::HexDigit, ""), behind: "", says: "V@ is a register of CHIP-8, for --chip8" },
+    Row { after: &[], shape: Shape::Between("", Class::Hexadecimal, ""), behind: "", says: "hexadecimal is 0x@, unless it is a name" },
+];
+
+/// Of the targets on another page.
+#[rattlefmt::skip]
+static TARGETS: [Row; 2] = [
+    Row { after: &["BR", "BQ", "BZ", "BDF", "BNQ", "BNZ", "BNF"], shape: Shape::Between("", Class::Any, ""), behind: "", says: "L| reaches every page" },
+    Row { after: &[], shape: Shape::Between("", Class::Any, ""), behind: "", says: "PAGE before both puts them on one page" },
+];
+
+/// Of Octo's statements without a colon.
+#[rattlefmt::skip]
+static OCTO_WORDS: [Row; 21] = [
+    Row { after: &[], shape: Shape::Between("", Class::Any, ""), behind: "+= ", says: "ADD @, ~" },
+    Row { after: &[], shape: Shape::Between("", Class::Any, ""), behind: "-= ", says: "SUB @, ~; of a number ADD @, 256-~" },
+    Row { after: &[], shape: Shape::Between("", Class::Any, ""), behind: "=- ", says: "SUBN @, ~" },
+    Row { after: &[], shape: Shape::Between("", Class::Any, ""), behind: "|= ", says: "OR @, ~" },
+    Row { after: &[], shape: Shape::Between("", Class::Any, ""), behind: "&= ", says: "AND @, ~" },
+    Row { after: &[], shape: Shape::Between("", Class::Any, ""), behind: "^= ", says: "XOR @, ~" },
+    Row { after: &[], shape: Shape::Between("", Class::Any, ""), behind: ">>= ", says: "SHR @, ~" },
+    Row { after: &[], shape: Shape::Between("", Class::Any, ""), behind: "<<= ", says: "SHL @, ~" },
+    Row { after: &[], shape: Shape::Words(&["jump"]), behind: "", says: "JP ~" },
+    Row { after: &[], shape: Shape::Words(&["jump0"]), behind: "", says: "JP V0, ~" },
+    Row { after: &[], shape: Shape::Words(&["return"]), behind: "", says: "RET" },
+    Row { after: &[], shape: Shape::Words(&["clear"]), behind: "", says: "CLS" },
+    Row { after: &[], shape: Shape::Words(&["sprite"]), behind: "", says: "DRW with commas: DRW V0, V1, 5" },
+    Row { after: &[], shape: Shape::Words(&["bcd"]), behind: "", says: "LD B, ~" },
+    Row { after: &[], shape: Shape::Words(&["save"]), behind: "", says: "LD [I], ~" },
+    Row { after: &[], shape: Shape::Words(&["load"]), behind: "", says: "LD ~, [I]" },
+    Row { after: &[], shape: Shape::Words(&["native"]), behind: "", says: "SYS ~" },
+    Row { after: &[], shape: Shape::Words(&["loop"]), behind: "", says: "a label, and JP to it in place of again" },
+    Row { after: &[], shape: Shape::Words(&["again"]), behind: "", says: "JP to the label in place of loop" },
+    Row { after: &[], shape: Shape::Words(&["if"]), behind: "", says: "SNE for ==, SE for !=: each skips one instruction" },
+    Row { after: &[], shape: Shape::Words(&["else", "begin", "while"]), behind: "", says: "SE and SNE skip one instruction, and JP leads on" },
+];
+
+/// Of the words of other assemblers of CHIP-8.
+#[rattlefmt::skip]
+static GAME_WORDS: [Row; 13] = [
+    Row { after: &[], shape: Shape::Words(&["hires", "lores", "scroll-down", "scroll-left", "scroll-right", "plane", "audio", "bighex"]), behind: "", says: "of SUPER-CHIP or XO-CHIP, and none here" },
+    Row { after: &[], shape: Shape::Words(&["SCD", "SCR", "SCL", "EXIT", "LOW", "HIGH"]), behind: "", says: "of SUPER-CHIP or XO-CHIP, and none here" },
+    Row { after: &[], shape: Shape::Words(&["DA", "FCB", "BYTE", "TEXT", "ASCII"]), behind: "", says: "here it is DB, with numbers" },
+    Row { after: &[], shape: Shape::Words(&["FDB", "WORD"]), behind: "", says: "here it is DW" },
+    Row { after: &[], shape: Shape::Words(&["=", "SET", ".EQU"]), behind: "", says: "here it is EQU" },
+    Row { after: &[], shape: Shape::Between("", Class::Name, ""), behind: "= ", says: "EQU with a label: @: EQU ~" },
+    Row { after: &[], shape: Shape::Words(&["CPU", "TITLE", "END", "OPTION", "XREF", "LIST"]), behind: "", says: "delete the line" },
+    Row { after: &[], shape: Shape::Words(&["ALIGN"]), behind: "", says: "an instruction may stand at any address: delete the line" },
+    Row { after: &[], shape: Shape::Words(&["INCLUDE"]), behind: "", says: "put the lines of that file here" },
+    Row { after: &[], shape: Shape::Words(&["LDI", "LDA", "LDN", "STR", "INC", "DEC", "GLO", "GHI", "PLO", "PHI", "SEP", "SEX", "BR", "LBR", "BZ", "BNZ", "IDL", "OUT", "INP"]), behind: "", says: "a word of the 1802: leave --chip8 out" },
+    Row { after: &[], shape: Shape::Between("#", Class::Any, ""), behind: "", says: "a comment begins with ;" },
+    Row { after: &[], shape: Shape::Between("//", Class::Any, ""), behind: "", says: "a comment begins with ;" },
+    Row { after: &[], shape: Shape::Between("", Class::Number, ""), behind: "", says: "bytes stand behind DB, with commas" },
+];
+
+/// Of Octo's statements with a colon.
+#[rattlefmt::skip]
+static OCTO_LABELS: [Row; 16] = [
+    Row { after: &[], shape: Shape::Between("if ", Class::Any, ""), behind: "", says: "SNE for ==, SE for !=: each skips one instruction" },
+    Row { after: &["="], shape: Shape::Words(&["delay "]), behind: "", says: "LD DT, ~" },
+    Row { after: &["="], shape: Shape::Words(&["buzzer "]), behind: "", says: "LD ST, ~" },
+    Row { after: &["="], shape: Shape::Between("", Class::Any, " "), behind: "random ", says: "RND @, ~" },
+    Row { after: &["="], shape: Shape::Between("", Class::Any, " "), behind: "key", says: "LD @, K" },
+    Row { after: &["="], shape: Shape::Between("", Class::Any, " "), behind: "delay", says: "LD @, DT" },
+    Row { after: &["="], shape: Shape::Between("", Class::Any, " "), behind: "hex ", says: "LD F, ~" },
+    Row { after: &["="], shape: Shape::Between("", Class::Any, " "), behind: "-", says: "LD @, 256-~" },
+    Row { after: &["="], shape: Shape::Between("", Class::Any, " "), behind: "", says: "LD @, ~" },
+    Row { after: &["alias"], shape: Shape::Words(&[""]), behind: "", says: "EQU with a label: x: EQU V0" },
+    Row { after: &["const", "calc"], shape: Shape::Words(&[""]), behind: "", says: "EQU with a label: x: EQU 5" },
+    Row { after: &["macro"], shape: Shape::Words(&[""]), behind: "", says: "there are no macros" },
+    Row { after: &["org"], shape: Shape::Words(&[""]), behind: "", says: "ORG ~" },
+    Row { after: &["byte"], shape: Shape::Words(&[""]), behind: "", says: "DB ~" },
+    Row { after: &["call"], shape: Shape::Words(&[""]), behind: "", says: "CALL ~" },
+    Row { after: &[], shape: Shape::Words(&[""]), behind: "", says: "a label is |:" },
+];
+
+/// Of the labels of CHIP-8.
+#[rattlefmt::skip]
+static GAME_LABELS: [Row; 5] = [
+    Row { after: &[], shape: Shape::Between("V", Class::HexDigit, ""), behind: "", says: "V@ is a register" },
+    Row { after: &[], shape: Shape::Words(&["I", "DT", "ST", "K", "F", "B"]), behind: "", says: "@ is a word of an operand" },
+    Row { after: &[], shape: Shape::Between("", Class::Name, " "), behind: "", says: "the colon stands directly behind: @:" },
+    Row { after: &[], shape: Shape::Between("#", Class::Any, ""), behind: "", says: "a comment begins with ;" },
+    Row { after: &[], shape: Shape::Between("//", Class::Any, ""), behind: "", says: "a comment begins with ;" },
+];
+
+/// Of the operands of CHIP-8.
+#[rattlefmt::skip]
+static GAME_OPERANDS: [Row; 34] = [
+    Row { after: &[], shape: Shape::Words(&["JP", "CALL", "SYS", "SE", "SNE", "LD", "ADD", "OR", "AND", "XOR", "SUB", "SUBN", "SHR", "SHL", "RND", "DRW", "SKP", "SKNP", "DB", "DW", "DS", "ORG"]), behind: "", says: "an operand is missing" },
+    Row { after: &["EQU"], shape: Shape::Words(&["EQU"]), behind: "", says: "EQU with a label and a number: x: EQU 2" },
+    Row { after: &[], shape: Shape::Holds(" //"), behind: "", says: "a comment begins with ;" },
+    Row { after: &[], shape: Shape::Holds(" #"), behind: "", says: "a comment begins with ;" },
+    Row { after: &["SUB"], shape: Shape::Between("", Class::Decimal, ""), behind: "", says: "SUB takes two registers: ADD with 256-@" },
+    Row { after: &["SUB", "SUBN", "OR", "AND", "XOR", "SHR", "SHL"], shape: Shape::Between("", Class::Number, ""), behind: "", says: "| takes registers" },
+    Row { after: &[], shape: Shape::Between("", Class::Decimal, ""), behind: "", says: "no number stands here" },
+    Row { after: &[], shape: Shape::Between("$", Class::Binary, ""), behind: "", says: "binary is 0b@" },
+    Row { after: &[], shape: Shape::Between("%", Class::Binary, ""), behind: "", says: "binary is 0b@" },
+    Row { after: &[], shape: Shape::Between("0B", Class::Binary, ""), behind: "", says: "binary is 0b@" },
+    Row { after: &[], shape: Shape::Between("B'", Class::Binary, "'"), behind: "", says: "binary is 0b@" },
+    Row { after: &[], shape: Shape::Between("", Class::Binary, "B"), behind: "", says: "binary is 0b@" },
+    Row { after: &[], shape: Shape::Between("0b", Class::Any, ""), behind: "", says: "a binary number has the digits 0 and 1" },
+    Row { after: &[], shape: Shape::Between("#", Class::Hexadecimal, ""), behind: "", says: "hexadecimal is 0x@" },
+    Row { after: &[], shape: Shape::Between("$", Class::Hexadecimal, ""), behind: "", says: "hexadecimal is 0x@" },
+    Row { after: &[], shape: Shape::Between("0X", Class::Hexadecimal, ""), behind: "", says: "hexadecimal is 0x@" },
+    Row { after: &[], shape: Shape::Between("", Class::HexNumber, "H"), behind: "", says: "hexadecimal is 0x@" },
+    Row { after: &[], shape: Shape::Between("", Class::HexNumber, ""), behind: "", says: "hexadecimal is 0x@" },
+    Row { after: &[], shape: Shape::Between("'", Class::Character, "'"), behind: "", says: "the character is 0x&" },
+    Row { after: &[], shape: Shape::Between("\"", Class::Character, "\""), behind: "", says: "the character is 0x&" },
+    Row { after: &[], shape: Shape::Between("'", Class::Any, ""), behind: "", says: "a text is DB with numbers: 0x41 for A" },
+    Row { after: &[], shape: Shape::Between("\"", Class::Any, ""), behind: "", says: "a text is DB with numbers: 0x41 for A" },
+    Row { after: &[], shape: Shape::Between("[ I", Class::Any, "]"), behind: "", says: "[I] has no blanks" },
+    Row { after: GAME_BYTES, shape: Shape::Between("-", Class::Decimal, ""), behind: "", says: "without a sign it is 256-@" },
+    Row { after: &[], shape: Shape::Between("-", Class::Any, ""), behind: "", says: "an expression begins with no sign" },
+    Row { after: &[], shape: Shape::Between("*", Class::Any, ""), behind: "", says: "$ is this address" },
+    Row { after: &[], shape: Shape::Words(&["R", "HF"]), behind: "", says: "of SUPER-CHIP, and none here" },
+    Row { after: &[], shape: Shape::Words(&["I", "[I]", "DT", "ST", "K", "F", "B"]), behind: "", says: "a word of an operand, which can't stand here" },
+    Row { after: &[], shape: Shape::Between("V1", Class::Decimal, ""), behind: "", says: "a register is one hexadecimal digit, V0 to VF" },
+    Row { after: &[], shape: Shape::Between("R", Class::HexDigit, ""), behind: "", says: "registers are V0 to VF" },
+    Row { after: &[], shape: Shape::Between("HIGH(", Class::Any, ")"), behind: "", says: "the high byte is >@" },
+    Row { after: &[], shape: Shape::Between("LOW(", Class::Any, ")"), behind: "", says: "the low byte is <@" },
+    Row { after: &[], shape: Shape::Holds(" "), behind: "", says: "an expression has no blanks, and commas part operands" },
+    Row { after: &[], shape: Shape::Between("", Class::Name, ""), behind: "", says: "a register, or a name that an earlier line gives one" },
+];
+
+/// Of the values of CHIP-8 that are out of range.
+#[rattlefmt::skip]
+static GAME_RANGES: [Row; 7] = [
+    Row { after: &["LD"], shape: Shape::Between("", Class::Any, ""), behind: "I", says: "an address is 0 to 4095" },
+    Row { after: &["LD"], shape: Shape::Between("", Class::Name, ""), behind: "", says: "a byte is 0 to 255: an address goes into I, LD I, @" },
+    Row { after: GAME_BYTES, shape: Shape::Between("", Class::Number, ""), behind: "", says: "a byte is 0 to 255" },
+    Row { after: GAME_BYTES, shape: Shape::Between("", Class::Any, ""), behind: "", says: "a byte is 0 to 255: <@ is the low byte" },
+    Row { after: &["DRW"], shape: Shape::Between("", Class::Any, ""), behind: "", says: "a sprite has 0 to 15 rows" },
+    Row { after: &["ORG"], shape: Shape::Between("", Class::Any, ""), behind: "", says: "a game lies at 0x200 to 0xFFF" },
+    Row { after: &["JP", "CALL", "SYS"], shape: Shape::Between("", Class::Any, ""), behind: "", says: "an address is 0 to 4095" },
+];
+
+/// Of the names without a value of CHIP-8.
+#[rattlefmt::skip]
+static GAME_UNDEFINED: [Row; 3] = [
+    Row { after: &[], shape: Shape::Between("", Class::Hexadecimal, "H"), behind: "", says: "hexadecimal is 0x@" },
+    Row { after: &[], shape: Shape::Between("R", Class::HexDigit, ""), behind: "", says: "registers are V0 to VF" },
+    Row { after: &[], shape: Shape::Between("", Class::Hexadecimal, ""), behind: "", says: "hexadecimal is 0x@, unless it is a name" },
+];
+
+#[tactic(auto, unfolding(crate::specs::Habits::words))]
+fn words() -> &'static [Row]
+    ensures { map row_of result.now ≡ words }
+{
+    &WORDS
+}
+
+#[tactic(auto, unfolding(crate::specs::Habits::operands))]
+fn operands() -> &'static [Row]
+    ensures { map row_of result.now ≡ operands }
+{
+    &OPERANDS
+}
+
+#[tactic(auto, unfolding(crate::specs::Habits::labels))]
+fn labels() -> &'static [Row]
+    ensures { map row_of result.now ≡ labels }
+{
+    &LABELS
+}
+
+#[tactic(auto, unfolding(crate::specs::Habits::ranges))]
+fn ranges() -> &'static [Row]
+    ensures { map row_of result.now ≡ ranges }
+{
+    &RANGES
+}
+
+#[tactic(auto, unfolding(crate::specs::Habits::undefined))]
+fn undefined() -> &'static [Row]
+    ensures { map row_of result.now ≡ undefined }
+{
+    &UNDEFINED
+}
+
+#[tactic(auto, unfolding(crate::specs::Habits::targets))]
+fn targets() -> &'static [Row]
+    ensures { map row_of result.now ≡ targets }
+{
+    &TARGETS
+}
+
+#[tactic(auto, unfolding(crate::specs::Habits::octo_words))]
+fn octo_words() -> &'static [Row]
+    ensures { map row_of result.now ≡ octo_words }
+{
+    &OCTO_WORDS
+}
+
+#[tactic(auto, unfolding(crate::specs::Habits::game_words))]
+fn game_words() -> &'static [Row]
+    ensures { map row_of result.now ≡ game_words }
+{
+    &GAME_WORDS
+}
+
+#[tactic(auto, unfolding(crate::specs::Habits::octo_labels))]
+fn octo_labels() -> &'static [Row]
+    ensures { map row_of result.now ≡ octo_labels }
+{
+    &OCTO_LABELS
+}
+
+#[tactic(auto, unfolding(crate::specs::Habits::game_labels))]
+fn game_labels() -> &'static [Row]
+    ensures { map row_of result.now ≡ game_labels }
+{
+    &GAME_LABELS
+}
+
+#[tactic(auto, unfolding(crate::specs::Habits::game_operands))]
+fn game_operands() -> &'static [Row]
+    ensures { map row_of result.now ≡ game_operands }
+{
+    &GAME_OPERANDS
+}
+
+#[tactic(auto, unfolding(crate::specs::Habits::game_ranges))]
+fn game_ranges() -> &'static [Row]
+    ensures { map row_of result.now ≡ game_ranges }
+{
+    &GAME_RANGES
+}
+
+#[tactic(auto, unfolding(crate::specs::Habits::game_undefined))]
+fn game_undefined() -> &'static [Row]
+    ensures { map row_of result.now ≡ game_undefined }
+{
+    &GAME_UNDEFINED
+}
+
+// Those of a cause that are statements of Octo.
+fn octo_statements(cause: AsmCause) -> &'static [Row]
+    ensures { map row_of result.now ≡ octo_statements cause }
+{
+    match cause {
+        AsmCause::BadText => octo_labels(),
+        AsmCause::UnknownMnemonic => octo_words(),
+        _ => &[],
+    }
+}
+
+// Those of a cause in a source of the CDP1802.
+fn processor_rows(cause: AsmCause) -> &'static [Row]
+    ensures { map row_of result.now ≡ processor_rows cause }
+{
+    match cause {
+        AsmCause::BadText => labels(),
+        AsmCause::UnknownMnemonic => words(),
+        AsmCause::BadOperand => operands(),
+        AsmCause::Range => ranges(),
+        AsmCause::Undefined => undefined(),
+        AsmCause::OffPage => targets(),
+        _ => &[],
+    }
+}
+
+// Those of a cause in a source of CHIP-8.
+fn game_rows(cause: AsmCause) -> &'static [Row]
+    ensures { map row_of result.now ≡ game_rows cause }
+{
+    match cause {
+        AsmCause::BadText => game_labels(),
+        AsmCause::UnknownMnemonic => game_words(),
+        AsmCause::BadOperand => game_operands(),
+        AsmCause::Range => game_ranges(),
+        AsmCause::Undefined => game_undefined(),
+        _ => &[],
+    }
+}
+
+/// The habits that are sought where a source of an instruction set has a fault of this cause.
+#[tactic(auto, unfolding(crate::specs::Habits::rows))]
+pub(crate) fn rows(isa: Isa, cause: AsmCause) -> &'static [Row]
+    ensures { map row_of result.now ≡ rows isa cause }
+{
+    match isa {
+        Isa::Cdp1802 => processor_rows(cause),
+        Isa::Chip8 => game_rows(cause),
+    }
+}
+
+/// The statements of Octo among them, which are sought first.
+#[tactic(auto, unfolding(crate::specs::Habits::octo_rows))]
+pub(crate) fn octo_rows(isa: Isa, cause: AsmCause) -> &'static [Row]
+    ensures { map row_of result.now ≡ octo_rows isa cause }
+{
+    match isa {
+        Isa::Cdp1802 => &[],
+        Isa::Chip8 => octo_statements(cause),
+    }
+}
