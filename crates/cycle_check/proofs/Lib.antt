@@ -8,5 +8,6 @@ pub mod Numbers
 pub mod Shown
 pub mod Soundness
 pub mod Leading
+pub mod Raised
 pub mod Appends
 mod Tried

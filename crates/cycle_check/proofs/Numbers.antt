@@ -2,8 +2,8 @@
 use Rattle.std.proofs.Common.{◌≡◌, ℕ, zero, suc, ◌+◌, ◌-◌, arith, List, [], ◌∷◌, Some, None, refl, inl, inr}
 use Rattle.std.specs.Prelude.{slice_index}
 use Rattle.std.proofs.lemmas.Bool.{cases_Bool}
-use Rattle.vip_byte.specs.Text.{words}
-use Rattle.cycle_check.specs.Certificate.{is_silent, said, numbers_from}
+use Rattle.vip_byte.specs.Text.{is_silent, words}
+use Rattle.cycle_check.specs.Certificate.{said, numbers_from}
 
 numbers_from-none : (number : ℕ) → numbers_from number [] ≡ []
 unfolding numbers_from

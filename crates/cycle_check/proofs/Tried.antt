@@ -11,7 +11,7 @@ use Rattle.cycle_check.specs.declared.grammar.Line.{Line}
 use Rattle.cycle_check.specs.Certificate.{Certificate, certificate_format, certificate_of, numbers_from}
 use Rattle.cycle_check.specs.Closed.{fault_in, unless}
 use Rattle.cycle_check.specs.Exits.{exits}
-use Rattle.cycle_check.specs.Found.{HasLimit, IsFound, leaves_rom, timing_text}
+use Rattle.cycle_check.specs.Found.{HasLimit, IsCertificate, leaves_rom, timing_text}
 use Rattle.cycle_check.specs.Reading.{IsRead}
 use Rattle.vip_byte.specs.Reading.{read}
 use Rattle.cycle_check.proofs.Answered.{checked-judged}
@@ -24,7 +24,7 @@ pub record IsOf (rom text : List ℕ) (entry p k : ℕ) (bound : Bound) (lines :
   pub leaves : All (λ exit. leaves_rom exit.to) (exits rom bound lines)
   pub limit : HasLimit bound lines
 
-module _ (rom text : List ℕ) (entry p k : ℕ) (draft : Certificate) (read : IsRead text draft) (found : IsFound rom entry p k text) where
+module _ (rom text : List ℕ) (entry p k : ℕ) (draft : Certificate) (read : IsRead text draft) (found : IsCertificate rom entry p k text) where
   its : draft ≡ record { bound = Some found.bound; lines = found.lines }
   its = read.is ∙ ap certificate_of (ok_is read.statements found.statements (sym read.says ∙ found.says)) ∙ found.reads
 

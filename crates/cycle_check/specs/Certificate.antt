@@ -1,13 +1,13 @@
 -- The cycle certificate: a text whose first line bounds the cycles of a routine, and whose other lines say what is left at each address
 -- (this project's format). std's `lines` are the lines of a text, and `words` those of a line.
-use Rattle.std.specs.Prelude.{ℕ, ◌+◌, ◌-◌, ◌==◌, Bool, true, if◌then◌else◌, nat_lt, List, [], ◌∷◌, length, slice_get, slice_index, codes, Option, Some, None, Result, Ok, Err, ok_or}
+use Rattle.std.specs.Prelude.{ℕ, ◌+◌, ◌-◌, ◌==◌, Bool, true, if◌then◌else◌, nat_lt, List, [], ◌∷◌, length, slice_get, codes, Option, Some, None, Result, Ok, Err, ok_or}
 use Rattle.std.specs.List.{filter_map}
 use Rattle.std.specs.Option.{option_map_or}
 use Rattle.std.specs.Result.{result_err, result_ok}
 use Rattle.std.specs.Str.{bytes_eq}
 use Rattle.vip_byte.specs.Number.{decimal_number, hex_number}
 use Rattle.vip_byte.specs.Reading.{Format, ◌>>=◌}
-use Rattle.vip_byte.specs.Text.{words}
+use Rattle.vip_byte.specs.Text.{is_silent, words}
 use Rattle.cycle_check.specs.declared.fault.CertCause.{CertCause}
 use Rattle.cycle_check.specs.declared.fault.CertCause.TheVariants.{BadLine, BadNumber, Order}
 use Rattle.cycle_check.specs.declared.fault.CertFault.{CertFault}
@@ -102,11 +102,6 @@ line_of (address ∷ x ∷ base ∷ step ∷ others) = do
 line_of words = Err BadLine
 
 -- ---- the lines that say something
-
--- no word, or a remark
-abbrev pub is_silent : List (List ℕ) → Bool
-is_silent [] = true
-is_silent (first ∷ others) = slice_index first 0 == 35
 
 -- what a line says: nothing, or its words
 unfoldable pub said : List ℕ → Option (List (List ℕ))

@@ -1,17 +1,20 @@
 -- What a search holds of the addresses to which an entry leads.
 use Rattle.std.specs.Prelude.{◌≡◌, ℕ, ◌+◌, ◌<◌, ◌==◌, ◌&&◌, ◌||◌, if◌then◌else◌, Bool, true, false, List, length, slice_index_or, Option, Some, None}
+use Rattle.std.specs.List.{All}
 use Rattle.machine.specs.declared.Kind.{Kind}
 use Rattle.machine.specs.declared.Kind.TheVariants.{Ldi}
 use Rattle.cycle_check.specs.declared.forward.Forward.{Forward}
 use Rattle.cycle_check.specs.declared.grammar.Bound.{Bound}
 use Rattle.cycle_check.specs.declared.grammar.Fact.{Fact}
 use Rattle.cycle_check.specs.declared.grammar.Fact.TheVariants as says
+use Rattle.cycle_check.specs.declared.grammar.Line.{Line}
 use Rattle.cycle_check.specs.declared.closed.Instruction.{Instruction}
 use Rattle.cycle_check.specs.declared.known.Knowledge.{Knowledge}
 use Rattle.cycle_check.specs.declared.table.When.{When}
 use Rattle.cycle_check.specs.Table.{x_after}
 use Rattle.cycle_check.specs.Closed.{fits_x, is_shown}
-use Rattle.cycle_check.specs.Obstacles.{FitsAll, IsLed, IsLost}
+use Rattle.cycle_check.specs.Obstacles.{AreLeast, FitsAll, IsLed, IsLost, IsOfWays}
+use Rattle.cycle_check.specs.Reading.{AreRising}
 
 -- ---- what is known
 
@@ -82,3 +85,11 @@ pub record StaysTrue (old new : Forward) : Type 0 where
   pub rom : new.rom.now ≡ old.rom.now
   pub bound : new.bound ≡ old.bound
   pub true_of : IsTrueOf new
+
+-- ---- the lines that are made
+
+-- in order, of addresses to which ways lead, and with no BASE above the least
+pub record AreMade (rom : List ℕ) (bound : Bound) (lines : List Line) : Type 0 where
+  pub rising : AreRising lines
+  pub of_ways : All (IsOfWays rom bound) lines
+  pub least : AreLeast rom bound lines

@@ -13,9 +13,9 @@ use Rattle.cycle_check.specs.declared.grammar.Fact.{Fact}
 use Rattle.cycle_check.specs.declared.grammar.Fact.TheVariants.{Any, Copy, NonZero, Is}
 use Rattle.cycle_check.specs.declared.grammar.Line.{Line}
 use Rattle.cycle_check.specs.Certificate.{certificate_format, certificate_of}
-use Rattle.cycle_check.specs.Closed.{bytes_at, checked, fits_x, left, line_at}
+use Rattle.cycle_check.specs.Closed.{bytes_at, checked, left, line_at}
 use Rattle.cycle_check.specs.Exits.{exits, remarks_text}
-use Rattle.cycle_check.specs.Obstacles.{FitsAll, IsLed, IsMost, IsRefused, IsUncounted}
+use Rattle.cycle_check.specs.Obstacles.{AreLeast, IsLed, IsMost, IsOfWays, IsRefused, IsUncounted}
 
 -- ---- the text of a certificate: single blanks, upper-case digits, no leading zeros
 
@@ -68,7 +68,7 @@ HasLimit bound lines = (line : Line) × (line_at lines bound.entry ≡ Some line
 -- A certificate of a routine that is entered at an address, with this program counter and this counter: it reads as its lines, is accepted, and has behind
 -- them a remark for each exit. So the routine is left only by SEP of another register or out of the ROM, and its limit is what is left at the entry where
 -- the counter is greatest.
-pub record IsFound (rom : List ℕ) (entry p k : ℕ) (text : List ℕ) : Type 0 where
+pub record IsCertificate (rom : List ℕ) (entry p k : ℕ) (text : List ℕ) : Type 0 where
   pub bound : Bound
   pub entered : bound.entry ≡ entry
   pub counter : bound.p ≡ p
@@ -83,24 +83,33 @@ pub record IsFound (rom : List ℕ) (entry p k : ℕ) (text : List ℕ) : Type 0
   pub leaves : All (λ exit. leaves_rom exit.to) (exits rom bound lines)
   pub limit : HasLimit bound lines
 
+-- One is found: it is the text of lines of addresses to which ways lead, each with the least BASE.
+pub record IsFoundFrom (rom : List ℕ) (start : Bound) (text : List ℕ) : Type 0 where
+  pub limit : ℕ
+  pub lines : List Line
+  pub of_ways : All (IsOfWays rom start) lines
+  pub least : AreLeast rom start lines
+  pub is : text ≡ timing_text rom (record start { limit = limit }) lines
+  pub certificate : IsCertificate rom start.entry start.p start.k text
+
+-- from this entry on, with this program counter and this counter
+abbrev pub IsFound : List ℕ → ℕ → ℕ → ℕ → List ℕ → Type 0
+IsFound rom entry p k text = IsFoundFrom rom (record { entry = entry; p = p; k = k; limit = 0 }) text
+
 -- ---- why none is found
 
 module _ (rom : List ℕ) (bound : Bound) where
-  -- A line of an address to which ways lead: its X is the one that all of them give.
-  pub record IsOfWays (line : Line) : Type 0 where
-    pub led : IsLed rom bound line.address
-    pub x : (asked : Option ℕ) → FitsAll rom bound line.address asked → fits_x asked line.x ≡ true
-
-  -- lines with a limit are no certificate that is found
+  -- lines with a limit are no certificate
   pub record FailsWith (lines : List Line) : Type 0 where
     pub limit : ℕ
-    pub none : IsFound rom bound.entry bound.p bound.k (timing_text rom (record bound { limit = limit }) lines) → ⊥
+    pub none : IsCertificate rom bound.entry bound.p bound.k (timing_text rom (record bound { limit = limit }) lines) → ⊥
 
-  -- Ways lead to the address, and lines of addresses to which ways lead, each with one fact, are no certificate.
+  -- Ways lead to the address, and lines of addresses to which ways lead, each with one fact and no BASE above the least, are no certificate.
   pub record IsUnfounded (address : ℕ) : Type 0 where
     pub led : IsLed rom bound address
     pub lines : List Line
-    pub of_ways : All IsOfWays lines
+    pub of_ways : All (IsOfWays rom bound) lines
+    pub least : AreLeast rom bound lines
     pub fails : FailsWith lines
 
   -- what is said of an address is true of the source

@@ -1,5 +1,5 @@
 -- Why no certificate of a routine was found.
-use Rattle.std.specs.Prelude.{◌≡◌, ℕ, ◌+◌, ◌-◌, ◌%◌, ◌<◌, ◌≤◌, ◌==◌, ◌&&◌, ◌⊎◌, Bool, true, false, List, length, slice_index, Option, Some, None}
+use Rattle.std.specs.Prelude.{◌≡◌, ℕ, ◌+◌, ◌%◌, ◌<◌, ◌≤◌, ◌==◌, ◌&&◌, ◌⊎◌, Bool, true, false, List, length, map, slice_index, Option, Some, None}
 use Rattle.std.specs.List.{All, Any}
 use Rattle.machine.specs.declared.Kind.{Kind}
 use Rattle.machine.specs.declared.Kind.TheVariants.{Inc, Dec, Lda, Plo}
@@ -24,6 +24,13 @@ assigns_low _ = false
 abbrev pub takes_one : Kind → Bool
 takes_one Dec = true
 takes_one _ = false
+
+-- lines with other BASEs, by their addresses
+abbrev pub with_base : (ℕ → ℕ) → Line → Line
+with_base base line = record line { base = base line.address }
+
+abbrev pub with_bases : (ℕ → ℕ) → List Line → List Line
+with_bases base = map (with_base base)
 
 module _ (rom : List ℕ) (bound : Bound) where
   -- ---- the ways from the entry
@@ -118,19 +125,30 @@ module _ (rom : List ℕ) (bound : Bound) where
     pub goes : (i : ℕ) → i < length turn → LeadsOn (slice_index turn i) (slice_index turn ((i + 1) % length turn))
     pub uncounted : (All (λ a. assigns_counter a ≡ false) turn) ⊎ (Any (λ a. MayRaise a) turn)
 
+  -- ---- the lines of a routine
+
+  -- A line of an address to which ways lead: its X is the one that all of them give.
+  pub record IsOfWays (line : Line) : Type 0 where
+    pub led : IsLed line.address
+    pub x : (asked : Option ℕ) → FitsAll line.address asked → fits_x asked line.x ≡ true
+
+  -- what each line says follows from what the lines behind its instruction say
+  abbrev pub AreClosed : List Line → Type 0
+  AreClosed lines = All (λ line. is_closed bound lines line (instruction_at rom line.address) ≡ true) lines
+
+  -- No BASE is greater than that of the same line among closed lines which differ from these in their BASEs alone.
+  abbrev pub AreLeast : List Line → Type 0
+  AreLeast lines = (base : ℕ → ℕ) → AreClosed (with_bases base lines) → All (λ line. line.base ≤ base line.address) lines
+
   -- ---- Most
 
-  -- A line's BASE can't be less before others.
-  abbrev pub IsLeast : List Line → Line → Type 0
-  IsLeast lines line =
-      (line.base ≡ 0) ⊎ (is_closed bound lines (record line { base = line.base - 1 }) (instruction_at rom line.address) ≡ false)
-
-  -- the line of an address passes what a certificate may say, among lines that are all closed and of which each has the least BASE
+  -- The least BASE of an address passes what a certificate may say, among closed lines of addresses to which ways lead.
   pub record IsMost (address : ℕ) : Type 0 where
     pub led : IsLed address
     pub lines : List Line
+    pub of_ways : All IsOfWays lines
+    pub least : AreLeast lines
     pub closed : first_from (cause_at rom bound lines) 1 lines ≡ None
-    pub least : All (IsLeast lines) lines
     pub line : Line
     pub there : line_at lines address ≡ Some line
-    pub more : (most_left < line.base) ⊎ (most_left < line.step)
+    pub more : most_left < line.base

@@ -111,7 +111,8 @@ fn raise_all(graph: &mut Graph, members: &[Member], step: u32) -> bool {
     raised
 }
 
-fn set_costs(graph: &mut Graph, place: u16, base: u32, step: u32) {
+/// Gives the line at a place of a graph a BASE and a STEP.
+pub fn set_costs(graph: &mut Graph, place: u16, base: u32, step: u32) {
     let at = usize::from(place);
     if let Some(mut node) = graph.node(place)
         && at < graph.nodes.len()
@@ -122,8 +123,8 @@ fn set_costs(graph: &mut Graph, place: u16, base: u32, step: u32) {
     }
 }
 
-// The least BASE of a line with a STEP that pays for the lines behind it as they are.
-fn base_of(graph: &Graph, node: &Node, step: u32) -> u32 {
+/// The least BASE of a line with a STEP that pays for the lines behind it as they are.
+pub fn base_of(graph: &Graph, node: &Node, step: u32) -> u32 {
     let mut base = 0u64;
     for counter in EXTREMES {
         let paid = u64::from(step) * u64::from(counter);

@@ -76,7 +76,7 @@ pub enum TimingCause {
     Opcode,
     /// A turn leads from the address back to it that isn't counted: none of its instructions assigns the counter, or one of them may raise it.
     Loop,
-    /// The least BASE at the address, or its STEP, passes 1,000,000.
+    /// The least BASE at the address passes 1,000,000.
     Most,
     /// Ways lead to the address, and the lines that say one fact each of those that are known are no certificate.
     Fact,

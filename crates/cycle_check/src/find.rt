@@ -2,14 +2,14 @@
 
 ghost use Rattle.std.specs.Prelude.{◌≡◌, ◌<◌, ◌≤◌, ◌⊎◌, ◌++◌, ◌∷◌, [], ◌≢◌, true, false, length, IfOk, IfErr, IfSome, OnOk, None, Some};
 ghost use Rattle.std.specs.List.{All};
-ghost use Rattle.cycle_check.specs.Forward.{IsTrueOf};
+ghost use Rattle.cycle_check.specs.Forward.{AreMade, IsTrueOf};
 ghost use Rattle.cycle_check.specs.Closed.{fault_in};
-ghost use Rattle.cycle_check.specs.Found.{HasLimit, IsFound, IsOfWays, IsTimingFault, leaves_rom, timing_text};
-ghost use Rattle.cycle_check.specs.Obstacles.{IsLeast, IsLed, IsMost};
+ghost use Rattle.cycle_check.specs.Found.{HasLimit, IsCertificate, IsFound, IsFoundFrom, IsTimingFault, leaves_rom, timing_text};
+ghost use Rattle.cycle_check.specs.Obstacles.{IsLed, IsMost, IsOfWays};
 ghost use Rattle.cycle_check.specs.Reading.{AreRising, IsRead};
 
 use crate::certificate::{Draft, is_behind, read_certificate};
-use crate::closed::{fault_in, first_cause, instruction_at, is_closed, left, line_at};
+use crate::closed::{fault_in, first_cause, left, line_at};
 use crate::components::{Found, find_components};
 use crate::cost::find_costs;
 use crate::exits::{Exit, all_leave_rom, exits_of};
@@ -17,6 +17,7 @@ use crate::fault::{CertFault, TimingCause, TimingFault, obstacle};
 use crate::forward::{Forward, explore};
 use crate::grammar::{Bound, Line, MOST_LEFT};
 use crate::graph::{Graph, graph_of};
+use crate::least::raise_all;
 use crate::write::text_of;
 use std::alloc::{AllocError, Global};
 use vip_byte::MOST_TEXT;
@@ -53,30 +54,58 @@ pub fn find_timing(
 // Finds a certificate whose lines are those of the addresses that were met.
 fn find_in(alloc: Global, forward: &Forward) -> Result<Vec<u8>, TimingFault>
     requires { IsTrueOf forward.now }
-    ensures found { IfOk result (λ text. IsFound forward.now.rom.now forward.now.bound.entry forward.now.bound.p forward.now.bound.k text.items) }
+    ensures found { IfOk result (λ text. IsFoundFrom forward.now.rom.now forward.now.bound text.items) }
+    ensures fits { IfOk result (λ text. length text.items ≤ MOST_TEXT) }
     ensures fault { IfErr result (IsTimingFault forward.now.rom.now forward.now.bound) }
 {
     let mut graph = graph_of(alloc, forward)?;
-    let last = settle_costs(alloc, forward, &mut graph)?;
-    let lines = lines_of(alloc, forward, &graph)?;
-    certify(alloc, forward, lines.as_slice(), last)
+    let turn = settle_costs(alloc, forward, &mut graph)?;
+    let lines = lines_with(alloc, forward, &mut graph, turn.is_none())?;
+    certify(
+        alloc,
+        forward,
+        lines.as_slice(),
+        turn.unwrap_or(forward.bound.entry),
+    )
 }
 
-// Finds what is left at each line, or a turn that isn't counted. The answer is the last address that was looked at.
-fn settle_costs(alloc: Global, forward: &Forward, graph: &mut Graph) -> Result<u16, TimingFault>
+// The lines of the addresses that were met, with their BASEs where the graph has their STEPs.
+fn lines_with(
+    alloc: Global,
+    forward: &Forward,
+    graph: &mut Graph,
+    settled: bool,
+) -> Result<Vec<Line>, AllocError>
+    requires { IsTrueOf forward.now }
+    ensures { IfOk result (λ lines. AreMade forward.now.rom.now forward.now.bound lines.items) }
+{
+    let mut lines = lines_of(alloc, forward, graph)?;
+    if !settled {
+        return Ok(lines);
+    }
+    raise_all(forward.rom, &forward.bound, graph, &mut lines);
+    Ok(lines)
+}
+
+// Finds the STEP of each line; or an address of a turn that isn't counted as the lines say it.
+fn settle_costs(
+    alloc: Global,
+    forward: &Forward,
+    graph: &mut Graph,
+) -> Result<Option<u16>, TimingFault>
     requires { IsTrueOf forward.now }
     ensures { IfErr result (IsTimingFault forward.now.rom.now forward.now.bound) }
 {
     match find_components(alloc, graph)? {
-        Found::Turn(turn) => first_of(forward, turn.as_slice()),
+        Found::Turn(turn) => Ok(Some(first_of(forward, turn.as_slice())?)),
         Found::Members(members) => {
             find_costs(graph, members.as_slice());
-            Ok(forward.bound.entry)
+            Ok(None)
         }
     }
 }
 
-// The first address of a turn, which assigns the counter where one of them does; or that the turn isn't counted.
+// The first address of a turn; or that the turn isn't counted, whatever the lines say.
 fn first_of(forward: &Forward, turn: &[u16]) -> Result<u16, TimingFault>
     requires { IsTrueOf forward.now }
     ensures { IfErr result (IsTimingFault forward.now.rom.now forward.now.bound) }
@@ -90,28 +119,26 @@ fn first_of(forward: &Forward, turn: &[u16]) -> Result<u16, TimingFault>
     }
 }
 
-// The lines of the addresses that were met, with what is left at them by a graph. Their addresses rise.
+// The lines of the addresses that were met, with their STEPs by a graph and no BASE. Their addresses rise.
 fn lines_of(alloc: Global, forward: &Forward, graph: &Graph) -> Result<Vec<Line>, AllocError>
     requires { IsTrueOf forward.now }
-    ensures rising { IfOk result (λ lines. AreRising lines.items) }
-    ensures of_ways { IfOk result (λ lines. All (λ line. IsOfWays forward.now.rom.now forward.now.bound line) lines.items) }
+    ensures { IfOk result (λ lines. AreMade forward.now.rom.now forward.now.bound lines.items) }
 {
     let mut lines = Vec::new(alloc);
     for address in 0x8000..0x8800u16 {
         if let Some(line) = forward.line_at(address) {
-            push_behind(&mut lines, with_costs(graph, line))?;
+            push_behind(&mut lines, with_step(graph, line))?;
         }
     }
     Ok(lines)
 }
 
-// A line with what is left at its address by a graph.
-fn with_costs(graph: &Graph, line: Line) -> Line
-    ensures { result ≡ record line { base = result.base; step = result.step } }
+// A line with its STEP by a graph.
+fn with_step(graph: &Graph, line: Line) -> Line
+    ensures { result ≡ record line { step = result.step } }
 {
     match graph.node(line.address.saturating_sub(0x8000)) {
         Some(node) => Line {
-            base: node.line.base,
             step: node.line.step,
             ..line
         },
@@ -140,9 +167,9 @@ fn certify(
     last: u16,
 ) -> Result<Vec<u8>, TimingFault>
     requires true_of { IsTrueOf forward.now }
-    requires rising { AreRising lines.now }
-    requires of_ways { All (λ line. IsOfWays forward.now.rom.now forward.now.bound line) lines.now }
-    ensures found { IfOk result (λ text. IsFound forward.now.rom.now forward.now.bound.entry forward.now.bound.p forward.now.bound.k text.items) }
+    requires made { AreMade forward.now.rom.now forward.now.bound lines.now }
+    ensures found { IfOk result (λ text. IsFoundFrom forward.now.rom.now forward.now.bound text.items) }
+    ensures fits { IfOk result (λ text. length text.items ≤ MOST_TEXT) }
     ensures fault { IfErr result (IsTimingFault forward.now.rom.now forward.now.bound) }
 {
     if let Some(address) = most_in(forward, lines) {
@@ -170,17 +197,17 @@ fn led_of(forward: &Forward, address: u16) -> u16
     }
 }
 
-// Whether a line passes what a certificate may say.
+// Whether a line has a BASE above what a certificate may say.
 fn is_over(line: &Line) -> bool
-    ensures { result ≡ true → (1000000 < line.now.base) ⊎ (1000000 < line.now.step) }
+    ensures { result ≡ true → 1000000 < line.now.base }
 {
-    u64::from(line.base) > MOST_LEFT || u64::from(line.step) > MOST_LEFT
+    u64::from(line.base) > MOST_LEFT
 }
 
-// The first address whose line passes what a certificate may say.
+// The first address whose line has a BASE above that.
 fn most_in(forward: &Forward, lines: &[Line]) -> Option<u16>
     requires true_of { IsTrueOf forward.now }
-    requires rising { AreRising lines.now }
+    requires made { AreMade forward.now.rom.now forward.now.bound lines.now }
     ensures { IfSome result (λ address. IsMost forward.now.rom.now forward.now.bound address) }
 {
     for line in lines {
@@ -193,44 +220,15 @@ fn most_in(forward: &Forward, lines: &[Line]) -> Option<u16>
 
 fn is_most(forward: &Forward, lines: &[Line], address: u16) -> bool
     requires true_of { IsTrueOf forward.now }
-    requires rising { AreRising lines.now }
+    requires made { AreMade forward.now.rom.now forward.now.bound lines.now }
     ensures { result ≡ true → IsMost forward.now.rom.now forward.now.bound address }
 {
     match line_at(lines, u32::from(address)) {
         Some(line) if is_over(&line) => {
-            forward.is_led(address)
-                && first_cause(forward.rom, &forward.bound, lines).is_none()
-                && are_least(forward.rom, &forward.bound, lines)
+            forward.is_led(address) && first_cause(forward.rom, &forward.bound, lines).is_none()
         }
         _ => false,
     }
-}
-
-// Whether no line's BASE can be less.
-fn are_least(rom: &[u8], bound: &Bound, lines: &[Line]) -> bool
-    requires { AreRising lines.now }
-    ensures { result ≡ true → All (IsLeast rom.now bound.now lines.now) lines.now }
-{
-    for line in lines {
-        if !is_least(rom, bound, lines, line) {
-            return false;
-        }
-    }
-    true
-}
-
-fn is_least(rom: &[u8], bound: &Bound, lines: &[Line], line: &Line) -> bool
-    requires { AreRising lines.now }
-    ensures { result ≡ true → IsLeast rom.now bound.now lines.now line.now }
-{
-    if line.base == 0 {
-        return true;
-    }
-    let less = Line {
-        base: line.base - 1,
-        ..*line
-    };
-    !is_closed(bound, lines, &less, &instruction_at(rom, line.address))
 }
 
 // The text of a certificate, with its exits.
@@ -262,10 +260,10 @@ fn bound_with(start: &Bound, lines: &[Line]) -> Bound
     }
 }
 
-// Whether a text is a certificate whose exits lead out of the ROM, as it is found.
+// Whether a text is a certificate whose exits lead out of the ROM.
 fn is_certificate(alloc: Global, rom: &[u8], start: &Bound, text: &[u8]) -> Result<bool, AllocError>
-    ensures found { IfOk result (λ found. found ≡ true → IsFound rom.now start.now.entry start.now.p start.now.k text.now) }
-    ensures none { IfOk result (λ found. found ≡ false → IsFound rom.now start.now.entry start.now.p start.now.k text.now → ⊥) }
+    ensures found { IfOk result (λ found. found ≡ true → IsCertificate rom.now start.now.entry start.now.p start.now.k text.now) }
+    ensures none { IfOk result (λ found. found ≡ false → IsCertificate rom.now start.now.entry start.now.p start.now.k text.now → ⊥) }
 {
     if text.len() > MOST_TEXT {
         return Ok(false);
@@ -287,8 +285,8 @@ fn is_found(
 ) -> Result<bool, AllocError>
     requires read { IsRead text.now draft.now }
     requires fits { length text.now ≤ MOST_TEXT }
-    ensures found { IfOk result (λ found. found ≡ true → IsFound rom.now start.now.entry start.now.p start.now.k text.now) }
-    ensures none { IfOk result (λ found. found ≡ false → IsFound rom.now start.now.entry start.now.p start.now.k text.now → ⊥) }
+    ensures found { IfOk result (λ found. found ≡ true → IsCertificate rom.now start.now.entry start.now.p start.now.k text.now) }
+    ensures none { IfOk result (λ found. found ≡ false → IsCertificate rom.now start.now.entry start.now.p start.now.k text.now → ⊥) }
 {
     let Some(bound) = draft.bound() else {
         return Ok(false);

@@ -6,9 +6,9 @@
 ghost use Rattle.std.specs.Prelude.{◌≡◌, ◌+◌, ◌<◌, ◌≤◌, OnOk, IfOk, IfErr, IfSome, MatchOption, None, true};
 ghost use Rattle.cycle_check.specs.declared.grammar.Fact.TheVariants.{NonZero};
 ghost use Rattle.cycle_check.specs.Closed.{instruction_at, ways_from};
-ghost use Rattle.cycle_check.specs.Found.{IsOfWays, IsTimingFault};
+ghost use Rattle.cycle_check.specs.Found.{IsTimingFault};
 ghost use Rattle.cycle_check.specs.Forward.{IsKnown, IsTrueOf, StaysTrue};
-ghost use Rattle.cycle_check.specs.Obstacles.{IsLed, IsLost, IsOneOf, MayBeAllowed};
+ghost use Rattle.cycle_check.specs.Obstacles.{IsLed, IsLost, IsOfWays, IsOneOf, MayBeAllowed};
 
 use crate::closed::{
     Instruction, instruction_at, is_allowed, is_open, is_shown, lets_through, ways_from,
@@ -254,6 +254,7 @@ impl Forward<'_> {
     fn line_with(&self, address: u16, known: &Knowledge) -> Line
         ensures address { result.address ≡ address }
         ensures x { result.x ≡ known.now.x }
+        ensures base { result.base ≡ 0 }
     {
         Line {
             address,
@@ -435,7 +436,7 @@ impl Forward<'_> {
     /// The line of an address, where it was met, which doesn't say yet what is left.
     pub fn line_at(&self, address: u16) -> Option<Line>
         requires { IsTrueOf self.now }
-        ensures { IfSome result (λ line. (line.address ≡ address) × IsOfWays self.now.rom.now self.now.bound line) }
+        ensures { IfSome result (λ line. (line.address ≡ address) × (line.base ≡ 0) × IsOfWays self.now.rom.now self.now.bound line) }
     {
         match self.known_at(u32::from(address)) {
             Some(known) => Some(self.line_with(address, &known)),

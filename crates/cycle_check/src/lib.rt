@@ -30,6 +30,7 @@ mod grammar;
 mod graph;
 mod known;
 pub mod laws;
+mod least;
 mod table;
 mod turn;
 mod write;
