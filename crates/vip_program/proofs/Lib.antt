@@ -7,6 +7,10 @@ pub mod Stretches
 pub mod Takes
 pub mod Tracing
 pub mod Shows
-pub mod Frames
+pub mod FramePictures
 pub mod Picturing
+pub mod Framing
+pub mod Counting
+pub mod Rows
+pub mod Instructing
 mod Labelled

@@ -21,8 +21,8 @@ use Rattle.vip_outside.specs.declared.sink.Failed.{Failed}
 use Rattle.vip_outside.proofs.PiecesLemmas.{PutsAll-nil, PutsAll-snoc, FailsWithin-snoc, FailsWithin-more}
 use Rattle.vip_text.specs.Screens.{picture_file}
 use Rattle.vip_program.specs.Moves.{goes_on, machine_after}
-use Rattle.vip_program.proofs.Frames.{More, Next, next, more}
-use Rattle.vip_program.proofs.Frames.Next.{NoPicture, OnePicture}
+use Rattle.vip_program.proofs.FramePictures.{More, Next, next, more}
+use Rattle.vip_program.proofs.FramePictures.Next.{NoPicture, OnePicture}
 use Rattle.vip_program.proofs.Runs.{awake, ends-in-time, rom-by, script-by, machine-by, move-within, moves-go, moves-rest}
 use Rattle.vip_program.specs.Pictures.{PictureAnswers, made, picture_files, pictured}
 use Rattle.vip_program.proofs.Stretches.{states-append}

@@ -1,6 +1,7 @@
 -- One line of a run, and what is left behind it.
 use Rattle.std.proofs.Common.{◌≡◌, ℕ, zero, suc, ◌+◌, ◌-◌, ◌<◌, ◌≤◌, List, [], ◌∷◌, ◌++◌, Bool, true, false, refl, append_assoc, sym, ap, ◌∙◌, subst, arith}
 use Rattle.std.specs.List.{flat_map}
+use Rattle.asm_core.specs.Origins.{Origins}
 use Rattle.machine.specs.Board.{Machine}
 use Rattle.machine.specs.Keys.{Keys, held_at}
 use Rattle.machine.specs.Run.{states, after_moves}
@@ -22,17 +23,17 @@ module _ (rom : List ℕ) (held : ℕ → Keys) (limit : ℕ) where
   first_line : (n left : ℕ) (b : Machine)
       → ((k : ℕ) → k < n → share (after_moves rom held b k) (after_moves rom held b (suc k)) ≡ true)
       → (0 < left → share (after_moves rom held b n) (after_moves rom held b (suc n)) ≡ false)
-      → (labels : List (ℕ × List ℕ))
-      → lines rom held labels b (suc n + left)
-      ≡ labels_before labels b ++ line_of rom held (states rom held b (suc n)) ∷ lines rom held labels (after_moves rom held b (suc n)) left
+      → (origins : Origins)
+      → lines rom held origins b (suc n + left)
+      ≡ labels_before origins b ++ line_of rom held (states rom held b (suc n)) ∷ lines rom held origins (after_moves rom held b (suc n)) left
   unfolding lines
-  first_line n left b shared ends labels =
-      ap (λ moves. flat_map (labelled rom held labels) (stretches moves)) (states-append rom held (suc n) left b)
-      ∙ ap (flat_map (labelled rom held labels))
+  first_line n left b shared ends origins =
+      ap (λ moves. flat_map (labelled rom held origins) (stretches moves)) (states-append rom held (suc n) left b)
+      ∙ ap (flat_map (labelled rom held origins))
       (stretch rom held n b (states rom held (after_moves rom held b (suc n)) left) shared
       (apart-left (after_moves rom held b n) (after_moves rom held b (suc n)) left ends))
-      ∙ append_assoc (labels_before labels b) (line_of rom held (states rom held b (suc n)) ∷ [])
-      (lines rom held labels (after_moves rom held b (suc n)) left)
+      ∙ append_assoc (labels_before origins b) (line_of rom held (states rom held b (suc n)) ∷ [])
+      (lines rom held origins (after_moves rom held b (suc n)) left)
 
   -- where some moves are left, the next is made
   some_left : (c : Machine) → c.cycle ≤ limit → 0 < moves_to rom held c limit → goes_on limit rom c ≡ true
@@ -75,33 +76,33 @@ module _ (count limit : ℕ) (old new : Seen) (made : ℕ) (m : MakesStretch cou
     moved = m.makes.moved;
     within = m.makes.within;
     ahead = ahead_is;
-    first = λ labels. ap (lines_of labels old) ahead_is ∙ first labels;
+    first = λ origins. ap (lines_of origins old) ahead_is ∙ first origins;
   }
     where
       ends_here : 0 < rest → share (machine_after old (made - 1)) (machine_after old made) ≡ false
       ends_here some = subst (λ c. share (machine_after old (made - 1)) c ≡ false) machine_is
           (m.ends (omega (arith, some)) (some_left new.rom (held_by new) limit new.machine m.makes.within (omega (arith, some))))
 
-      behind : (labels : List (ℕ × List ℕ)) → lines_of labels new rest ≡ lines old.rom (held_by old) labels (machine_after old made) rest
-      behind labels =
-          ap (λ rom. lines rom (held_by new) labels new.machine rest) rom_is ∙ ap (λ held. lines old.rom held labels new.machine rest) held_is
-          ∙ ap (λ c. lines old.rom (held_by old) labels c rest) machine_is
+      behind : (origins : Origins) → lines_of origins new rest ≡ lines old.rom (held_by old) origins (machine_after old made) rest
+      behind origins =
+          ap (λ rom. lines rom (held_by new) origins new.machine rest) rom_is ∙ ap (λ held. lines old.rom held origins new.machine rest) held_is
+          ∙ ap (λ c. lines old.rom (held_by old) origins c rest) machine_is
 
-      by_number : (labels : List (ℕ × List ℕ)) (n : ℕ) → made ≡ suc n
-          → lines_of labels old (made + rest)
-          ≡ labels_before labels old.machine ++ line ∷ lines old.rom (held_by old) labels (machine_after old made) rest
-      by_number labels n e =
+      by_number : (origins : Origins) (n : ℕ) → made ≡ suc n
+          → lines_of origins old (made + rest)
+          ≡ labels_before origins old.machine ++ line ∷ lines old.rom (held_by old) origins (machine_after old made) rest
+      by_number origins n e =
           let before : made - 1 ≡ n = omega (arith, e) in
-          subst (λ k. lines_of labels old (k + rest)
-          ≡ labels_before labels old.machine ++ line ∷ lines old.rom (held_by old) labels (machine_after old k) rest) (sym e)
+          subst (λ k. lines_of origins old (k + rest)
+          ≡ labels_before origins old.machine ++ line ∷ lines old.rom (held_by old) origins (machine_after old k) rest) (sym e)
           (first_line old.rom (held_by old) limit n rest old.machine (λ k l. m.shared k (omega (arith, e, l)))
           (λ some. subst (λ k. share (machine_after old k) (machine_after old (suc n)) ≡ false) before
-          (subst (λ k. share (machine_after old (made - 1)) (machine_after old k) ≡ false) e (ends_here some))) labels
-          ∙ ap (λ l. labels_before labels old.machine ++ l ∷ lines old.rom (held_by old) labels (machine_after old (suc n)) rest)
+          (subst (λ k. share (machine_after old (made - 1)) (machine_after old k) ≡ false) e (ends_here some))) origins
+          ∙ ap (λ l. labels_before origins old.machine ++ l ∷ lines old.rom (held_by old) origins (machine_after old (suc n)) rest)
           (sym (is ∙ ap (λ k. line_of old.rom (held_by old) (states old.rom (held_by old) old.machine k)) e)))
 
-      first : (labels : List (ℕ × List ℕ))
-          → lines_of labels old (made + rest) ≡ labels_before labels old.machine ++ line ∷ lines_of labels new rest
-      first labels =
-          by_number labels (made - 1) (let some = m.some in omega (arith, some))
-          ∙ ap (λ tail. labels_before labels old.machine ++ line ∷ tail) (sym (behind labels))
+      first : (origins : Origins)
+          → lines_of origins old (made + rest) ≡ labels_before origins old.machine ++ line ∷ lines_of origins new rest
+      first origins =
+          by_number origins (made - 1) (let some = m.some in omega (arith, some))
+          ∙ ap (λ tail. labels_before origins old.machine ++ line ∷ tail) (sym (behind origins))

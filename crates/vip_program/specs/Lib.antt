@@ -5,3 +5,8 @@ pub mod Lines
 pub mod Trace
 pub mod Moves
 pub mod Pictures
+pub mod Profile
+pub mod Figures
+pub mod Frames
+pub mod Counts
+pub mod Instructions

@@ -1,10 +1,13 @@
 -- The lines of a trace: what each tells of the machine before its moves. Digits are upper case, and the cycle is decimal.
-use Rattle.std.specs.Prelude.{ℕ, Bool, false, ◌==◌, filter, ◌+◌, ◌*◌, ◌%◌, List, [], ◌∷◌, ◌++◌, length, map, flat_map, take, slice_index, codes, decimal, Option, Some, None}
+use Rattle.std.specs.Prelude.{ℕ, Bool, ◌+◌, ◌*◌, ◌%◌, List, [], ◌∷◌, ◌++◌, length, map, flat_map, take, slice_index, codes, decimal, Option, Some, None}
+use Rattle.std.specs.Option.{option_map_or}
+use Rattle.asm_core.specs.Origins.{Origins, labels_over}
 use Rattle.machine.specs.Board.{Machine, Case, case_of, byte_of, dma_byte, flags_of}
 use Rattle.machine.specs.Board.Case.{Dma, Interrupt, Idle, Instruction}
 use Rattle.machine.specs.Instruction.{Regs, Effect, Port, at, instruction}
 use Rattle.machine.specs.Instruction.Port.{Send, Receive}
 use Rattle.machine.specs.Keys.{Keys}
+use Rattle.machine.specs.Memory.{mapped_address}
 use Rattle.machine.specs.Opcodes.{kind_of, opcode_number}
 use Rattle.machine.specs.Signals.{efx_at}
 use Rattle.vip_byte.specs.HexText.{bytes_text, hex2, hex4}
@@ -117,11 +120,11 @@ module _ (rom : List ℕ) (held : ℕ → Keys) where
 
 -- ---- labels
 
--- a line stands at an address: its move is the instruction there
-abbrev pub stands_in : Case → ℕ → Machine → Bool
-stands_in Instruction address b = address == at b.regs b.regs.p
-stands_in _ address b = false
+-- the address from which the opcode of a move is read that is an instruction
+abbrev pub place_in : Case → Machine → Option ℕ
+place_in Instruction b = Some (mapped_address b.latch (at b.regs b.regs.p))
+place_in _ b = None
 
 -- the lines that show the labels before the line of a move
-abbrev pub labels_before : List (ℕ × List ℕ) → Machine → List (List ℕ)
-labels_before labels b = map (λ label. label.1) (filter (λ label. stands_in (case_of b) label.0 b) labels)
+abbrev pub labels_before : Origins → Machine → List (List ℕ)
+labels_before origins b = option_map_or (labels_over origins) (place_in (case_of b) b) []

@@ -1,5 +1,6 @@
 -- What the calls make of a board, move by move.
 use Rattle.std.specs.Prelude.{◌≡◌, ◌<◌, ◌≤◌, ℕ, suc, ◌+◌, ◌-◌, ◌/◌, ◌==◌, ◌&&◌, not, nat_le, Bool, true, false, List, ◌∷◌, ◌++◌}
+use Rattle.asm_core.specs.Origins.{Origins}
 use Rattle.machine.specs.Board.{Machine, Case, length_of}
 use Rattle.machine.specs.Board.Case.{Dma, Idle}
 use Rattle.machine.specs.Run.{after_moves}
@@ -54,5 +55,5 @@ pub record TakesLine (count limit : ℕ) (old new : Seen) (line : List ℕ) (mad
   pub within : new.machine.cycle ≤ limit
   pub ahead : moves_ahead old limit count ≡ made + moves_ahead new limit (count - made)
   pub first :
-      (labels : List (ℕ × List ℕ))
-      → lines_of labels old (moves_ahead old limit count) ≡ labels_before labels old.machine ++ line ∷ lines_of labels new (moves_ahead new limit (count - made))
+      (origins : Origins)
+      → lines_of origins old (moves_ahead old limit count) ≡ labels_before origins old.machine ++ line ∷ lines_of origins new (moves_ahead new limit (count - made))

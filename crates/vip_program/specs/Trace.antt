@@ -1,7 +1,7 @@
 -- The run of a program up to a limit, and what is written of it: a line for each instruction and each interrupt, one for each stretch of idle
--- cycles, and one for the DMA cycles of each raster line. Before the line of an instruction stands a
--- line for each label of its address; where a program has no labels, nothing does.
+-- cycles, and one for the DMA cycles of each raster line. Before the line of an instruction stand the lines of the labels at its opcode.
 use Rattle.std.specs.Prelude.{◌≡◌, ◌≤◌, ℕ, ◌+◌, ◌-◌, ◌/◌, ◌%◌, ◌==◌, if◌then◌else◌, Bool, true, false, min, List, [], ◌∷◌, ◌++◌, length, flat_map, Result, Ok, Err}
+use Rattle.asm_core.specs.Origins.{Origins}
 use Rattle.machine.specs.Board.{Machine, Case, case_of}
 use Rattle.machine.specs.Board.Case.{Dma, Idle}
 use Rattle.machine.specs.Instruction.{at}
@@ -52,20 +52,20 @@ module _ (rom : List ℕ) (held : ℕ → Keys) where
   moves_to b limit = length (up_to_sleep (run_to rom held b limit)) - 1
 
   -- the line of a stretch, behind those of the labels at its instruction
-  abbrev pub labelled : List (ℕ × List ℕ) → List Machine → List (List ℕ)
-  labelled labels [] = []
-  labelled labels (b ∷ bs) = labels_before labels b ++ line_of rom held (b ∷ bs) ∷ []
+  abbrev pub labelled : Origins → List Machine → List (List ℕ)
+  labelled origins [] = []
+  labelled origins (b ∷ bs) = labels_before origins b ++ line_of rom held (b ∷ bs) ∷ []
 
   -- the lines of so many moves from a machine on
-  unfoldable pub lines : List (ℕ × List ℕ) → Machine → ℕ → List (List ℕ)
-  lines labels b moves = flat_map (labelled labels) (stretches (states rom held b moves))
+  unfoldable pub lines : Origins → Machine → ℕ → List (List ℕ)
+  lines origins b moves = flat_map (labelled origins) (stretches (states rom held b moves))
 
 -- those that the board has made when so many have been asked for, or the run has ended
 abbrev pub moves_ahead : Seen → ℕ → ℕ → ℕ
 moves_ahead s limit count = min count (moves_to s.rom (held_by s) s.machine limit)
 
-abbrev pub lines_of : List (ℕ × List ℕ) → Seen → ℕ → List (List ℕ)
-lines_of labels s moves = lines s.rom (held_by s) labels s.machine moves
+abbrev pub lines_of : Origins → Seen → ℕ → List (List ℕ)
+lines_of origins s moves = lines s.rom (held_by s) origins s.machine moves
 
 -- ---- how it ends
 
@@ -79,21 +79,21 @@ end_at b = if sleeps b then end.Idle (idle_address b) else end.AtLimit
 -- ---- what the calls answer
 
 -- all lines went out, and the board has made these moves
-pub record Traces (labels : List (ℕ × List ℕ)) (count limit : ℕ) (old new : Seen) (out out' : SinkMeaning) (made : ℕ) : Type 0 where
-  pub puts : PutsAll (lines_of labels old (moves_ahead old limit count)) out out'
+pub record Traces (origins : Origins) (count limit : ℕ) (old new : Seen) (out out' : SinkMeaning) (made : ℕ) : Type 0 where
+  pub puts : PutsAll (lines_of origins old (moves_ahead old limit count)) out out'
   pub all : made ≡ moves_ahead old limit count
   pub moved : new ≡ moved_by made old
 
 -- a line failed, and the board has made the moves up to the end of that line
-pub record TraceFails (labels : List (ℕ × List ℕ)) (count limit : ℕ) (old new : Seen) (out out' : SinkMeaning) : Type 0 where
-  pub fails : FailsWithin (lines_of labels old (moves_ahead old limit count)) out out'
+pub record TraceFails (origins : Origins) (count limit : ℕ) (old new : Seen) (out out' : SinkMeaning) : Type 0 where
+  pub fails : FailsWithin (lines_of origins old (moves_ahead old limit count)) out out'
   pub made : ℕ
   pub few : made ≤ moves_ahead old limit count
   pub moved : new ≡ moved_by made old
 
-abbrev pub TraceAnswers : List (ℕ × List ℕ) → ℕ → ℕ → Seen → Seen → SinkMeaning → SinkMeaning → Result ℕ Failed → Type 0
-TraceAnswers labels count limit old new out out' (Ok made) = Traces labels count limit old new out out' made
-TraceAnswers labels count limit old new out out' (Err e) = TraceFails labels count limit old new out out'
+abbrev pub TraceAnswers : Origins → ℕ → ℕ → Seen → Seen → SinkMeaning → SinkMeaning → Result ℕ Failed → Type 0
+TraceAnswers origins count limit old new out out' (Ok made) = Traces origins count limit old new out out' made
+TraceAnswers origins count limit old new out out' (Err e) = TraceFails origins count limit old new out out'
 
 -- the machine at the end of a run
 abbrev pub last_machine : Seen → ℕ → Machine
@@ -109,5 +109,5 @@ ShowAnswers pieces limit old out out' (Ok end) = ShowsProgram pieces limit old o
 ShowAnswers pieces limit old out out' (Err e) = FailsWithin pieces out out'
 
 -- the lines of a whole run
-abbrev pub program_trace : List (ℕ × List ℕ) → Seen → ℕ → List (List ℕ)
-program_trace labels s limit = lines_of labels s (moves_to s.rom (held_by s) s.machine limit)
+abbrev pub program_trace : Origins → Seen → ℕ → List (List ℕ)
+program_trace origins s limit = lines_of origins s (moves_to s.rom (held_by s) s.machine limit)

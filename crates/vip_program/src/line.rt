@@ -51,7 +51,7 @@ fn names_at(opcode: u8) -> Names
 }
 
 /// The opcode at an address, and the two bytes behind it.
-fn three_at(memory: &Memory, address: u16) -> [u8; 3]
+pub(crate) fn three_at(memory: &Memory, address: u16) -> [u8; 3]
     ensures { result ≡ three_at (read memory.now.rom memory.now.latch memory.now.ram) address }
 {
     [
@@ -62,7 +62,7 @@ fn three_at(memory: &Memory, address: u16) -> [u8; 3]
 }
 
 /// Appends the bytes of an instruction in a column of six.
-fn put_code(into: &mut Buffer, three: [u8; 3])
+pub(crate) fn put_code(into: &mut Buffer, three: [u8; 3])
     requires { HasRoom into.old.items 12 }
     ensures items { into.new.items ≡ into.old.items ++ code_text three }
     ensures len { array_vec_len into.new ≤ array_vec_len into.old + 6 }

@@ -6,7 +6,7 @@ ghost use Rattle.vip_program.specs.Trace.{ShowAnswers, TraceAnswers, end_at, pro
 
 use crate::labels::{next_place, put_labels};
 use crate::moves::{goes_on, next_line};
-use asm_core::Labels;
+use asm_core::Origins;
 use vip_board::Board;
 use vip_byte::{Buffer, add16};
 use vip_outside::{Failed, Sink};
@@ -34,20 +34,20 @@ pub fn ending(board: &Board) -> ProgramEnd
 }
 
 /// Makes at most `count` moves, those that end at or before the limit, and none from where the processor idles with the display off. Puts
-/// their lines, each as one piece, that of an instruction behind those of the labels at its address, and answers how many moves were made. The
+/// their lines, each as one piece, that of an instruction behind those of the labels at its opcode, and answers how many moves were made. The
 /// board is at a boundary, before and after.
 ///
 /// A put that fails ends it: the board has made the moves of that line, and no others.
 pub fn trace_moves<O: Sink>(
     board: &mut Board,
-    labels: &Labels,
+    origins: &Origins,
     count: u64,
     limit: Limit,
     out: &mut O,
 ) -> Result<u64, Failed>
     requires boundary { board.old.phase ≡ Boundary }
     requires within { board.old.machine.cycle ≤ limit }
-    ensures { TraceAnswers labels.now count limit board.old board.new (O.meaning out.old) (O.meaning out.new) result }
+    ensures { TraceAnswers origins.now count limit board.old board.new (O.meaning out.old) (O.meaning out.new) result }
 {
     let mut made = 0;
     // one for all lines, since a new one is filled with 00 each time
@@ -56,7 +56,7 @@ pub fn trace_moves<O: Sink>(
         let place = next_place(board);
         line.clear();
         made += next_line(board, count - made, limit, &mut line);
-        put_labels(labels, place, out)?;
+        put_labels(origins, place, out)?;
         out.put(line.as_slice())?;
     }
     Ok(made)
@@ -66,14 +66,14 @@ pub fn trace_moves<O: Sink>(
 /// labels at them, each as one piece. A put that fails ends it. No memory is taken.
 pub fn show_trace<O: Sink>(
     board: &mut Board,
-    labels: &Labels,
+    origins: &Origins,
     limit: Limit,
     out: &mut O,
 ) -> Result<ProgramEnd, Failed>
     requires boundary { board.old.phase ≡ Boundary }
     requires within { board.old.machine.cycle ≤ limit }
-    ensures { ShowAnswers (program_trace labels.now board.old limit) limit board.old (O.meaning out.old) (O.meaning out.new) result }
+    ensures { ShowAnswers (program_trace origins.now board.old limit) limit board.old (O.meaning out.old) (O.meaning out.new) result }
 {
-    trace_moves(board, labels, limit.cycles(), limit, out)?;
+    trace_moves(board, origins, limit.cycles(), limit, out)?;
     Ok(ending(board))
 }

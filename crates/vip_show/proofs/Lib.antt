@@ -2,6 +2,7 @@ pub mod Lists
 pub mod Screens
 pub mod Endings
 pub mod EventsShown
+pub mod Digesting
 pub mod Underway
 pub mod Fresh
 pub mod Points
@@ -9,8 +10,5 @@ pub mod RamSizes
 pub mod Files
 pub mod Saving
 pub mod OneAnswer
-pub mod Columns
-pub mod Framing
-pub mod Counting
-pub mod Rows
+pub mod OpcodeLemmas
 pub mod Profiling

@@ -1,6 +1,7 @@
 -- A run on its way whose dispatch points are counted.
 use Rattle.std.proofs.Common.{◌≡◌, ℕ, Bool, true, false, ◌+◌, ◌≤◌, ◌<◌, List, [], ◌∷◌, ◌++◌, length, refl, sym, ap, ◌∙◌, subst, arith, length-append}
-use Rattle.std.specs.Prelude.{nat_le, None, Result, Ok, Err, IsErr}
+use Rattle.std.specs.Prelude.{nat_le, None, Result, Ok, Err, IsErr, slice_index_or}
+use Rattle.std.proofs.lemmas.List.{length-map, map-append}
 use Rattle.std.proofs.lemmas.Bool.Decides.{nat_tests}
 use Rattle.machine.specs.Keys.{Event as KeyEvent}
 use Rattle.chip8_lang.specs.declared.view.Edition.{Edition}
@@ -23,14 +24,22 @@ use Rattle.vip_relation.proofs.Steps.{few-met}
 use Rattle.vip_text.specs.declared.ending.RunEnd.{RunEnd}
 use Rattle.vip_text.specs.declared.ending.RunEnd.TheVariants as run
 use Rattle.vip_show.specs.Answers.{IsFresh, ShowAnswers}
-use Rattle.vip_show.specs.declared.counts.Counts.{Counts}
-use Rattle.vip_show.specs.Counts.{Awaits, Counted, CountsRun}
-use Rattle.vip_show.specs.Profile.{last_cycle, profile_pieces, profile_text, views_of}
-use Rattle.vip_show.proofs.Counting.{last_cycle-more}
+use Rattle.vip_program.specs.Counts.{addresses, Awaits, Counted}
+use Rattle.vip_program.specs.Profile.{Code, last_cycle, profile_text as text_of}
+use Rattle.vip_program.specs.declared.counts.Point.{Point}
+use Rattle.vip_program.proofs.Counting.{last_cycle-more}
+use Rattle.vip_show.specs.declared.opcodes.Profile.{Profile}
+use Rattle.vip_show.specs.Profile.{Profiles, ProfilesRun, code_of, met_points, opcode_at, point_of, profile_pieces, profile_text, title, views_of}
 use Rattle.vip_show.proofs.EventsShown.{none-first}
 use Rattle.vip_show.proofs.Underway.{Underway, Through, under-first, under-dispatch, under-picture, through-end, through-stop}
 
 -- ---- the points among events, with one more
+
+abbrev last_of : List View → ℕ
+last_of views = last_cycle (met_points views)
+
+last_of-more : (views : List View) (view : View) → last_of (views ++ view ∷ []) ≡ view.cycle
+last_of-more views view = ap last_cycle (map-append point_of views (view ∷ [])) ∙ last_cycle-more (met_points views) (point_of view)
 
 dispatches-more : (e : Edition) (events : List Event) (b : Machine) → views_of e (events ++ Dispatch b ∷ []) ≡ views_of e events ++ view_at e b ∷ []
 dispatches-more e [] b = refl
@@ -78,53 +87,53 @@ later v v' f f' same one = go (nat_le v.board.machine.cycle v'.board.machine.cyc
 -- ---- on its way
 
 -- of the events met the dispatch points are counted
-pub record Profiling (limit : ℕ) (start v : VipState) (counts : Counts) : Type 0 where
+pub record Profiling (limit : ℕ) (start v : VipState) (profile : Profile) : Type 0 where
   pub done : List Event
   pub under : Underway limit start v done
   pub follows : Follows v
-  pub counted : Counted counts (views_of start.edition done)
+  pub counted : Profiles profile (views_of start.edition done)
   pub met : length done ≤ v.met
-  pub in_time : last_cycle (views_of start.edition done) ≤ v.board.machine.cycle
+  pub in_time : last_of (views_of start.edition done) ≤ v.board.machine.cycle
 
 module _ (start : VipState) (fresh : IsFresh start) (follows : Follows start) where
   -- the point at which it begins, where there is one
-  pub awaits-first : (counts : Counts) (view : View) → Counted counts [] → view ≡ view_at start.edition start.board.machine → Awaits counts view
-  awaits-first counts view counted is = record {
-    views = [];
-    counted = counted;
+  pub awaits-first : (profile : Profile) (view : View) → Profiles profile [] → view ≡ view_at start.edition start.board.machine → Awaits profile.counts (point_of view)
+  awaits-first profile view counted is = record {
+    points = [];
+    counted = counted.counted;
     few = omega arith;
     behind = omega arith;
     in_time = let cycle = ap (λ (view : View). view.cycle) is ∙ cycle-seen start.edition start.board.machine in omega (arith, cycle, follows.in_time);
   }
 
-  pub first-counted : (counts : Counts) (view : View) → (start.last ≡ None → ⊥) → view ≡ view_at start.edition start.board.machine
-      → Counted counts (view ∷ []) → Counted counts (views_of start.edition (first_events start.start))
-  first-counted counts view some is counted = by_start start.start refl
+  pub first-counted : (profile : Profile) (view : View) → (start.last ≡ None → ⊥) → view ≡ view_at start.edition start.board.machine
+      → Profiles profile (view ∷ []) → Profiles profile (views_of start.edition (first_events start.start))
+  first-counted profile view some is counted = by_start start.start refl
     where
-      by_start : (s : Start) → start.start ≡ s → Counted counts (views_of start.edition (first_events start.start))
+      by_start : (s : Start) → start.start ≡ s → Profiles profile (views_of start.edition (first_events start.start))
       by_start (Reset game) at = absurd (some (fresh.last ∙ ap (first_view start.edition) at))
       by_start (Saved file) at =
-          subst (Counted counts)
+          subst (Profiles profile)
           (ap (λ v. v ∷ []) (is ∙ ap (view_at start.edition) (fresh.stands file at ∙ ap machine_of at))
           ∙ sym (ap (λ s. views_of start.edition (first_events s)) at)) counted
 
-  pub none-counted : (counts : Counts) → start.last ≡ None → Counted counts [] → Counted counts (views_of start.edition (first_events start.start))
-  none-counted counts none counted = rw (none-first start fresh none) counted
+  pub none-counted : (profile : Profile) → start.last ≡ None → Profiles profile [] → Profiles profile (views_of start.edition (first_events start.start))
+  none-counted profile none counted = rw (none-first start fresh none) counted
 
   -- the point lies at the cycle at which it begins
-  first-cycle : last_cycle (views_of start.edition (first_events start.start)) ≤ start.board.machine.cycle
+  first-cycle : last_of (views_of start.edition (first_events start.start)) ≤ start.board.machine.cycle
   first-cycle = by_start start.start refl
     where
-      by_start : (s : Start) → start.start ≡ s → last_cycle (views_of start.edition (first_events start.start)) ≤ start.board.machine.cycle
+      by_start : (s : Start) → start.start ≡ s → last_of (views_of start.edition (first_events start.start)) ≤ start.board.machine.cycle
       by_start (Reset game) at = rw at (omega arith)
       by_start (Saved file) at =
           let seen : (view_at start.edition (machine_of (Saved file))).cycle ≡ start.board.machine.cycle =
           cycle-seen start.edition (machine_of (Saved file)) ∙ sym (ap (λ (b : Machine). b.cycle) (fresh.stands file at ∙ ap machine_of at)) in
           rw at (omega (arith, seen))
 
-  pub profiling-first : (limit : ℕ) (counts : Counts) → Counted counts (views_of start.edition (first_events start.start))
-      → Profiling limit start start counts
-  profiling-first limit counts counted = record {
+  pub profiling-first : (limit : ℕ) (profile : Profile) → Profiles profile (views_of start.edition (first_events start.start))
+      → Profiling limit start start profile
+  profiling-first limit profile counted = record {
     done = first_events start.start;
     under = under-first limit start fresh;
     follows = follows;
@@ -133,7 +142,7 @@ module _ (start : VipState) (fresh : IsFresh start) (follows : Follows start) wh
     in_time = first-cycle;
   }
 
-module _ (limit : ℕ) (start v v' : VipState) (counts : Counts) (p : Profiling limit start v counts) (follows : Follows v') where
+module _ (limit : ℕ) (start v v' : VipState) (profile : Profile) (p : Profiling limit start v profile) (follows : Follows v') where
   module _ (d : Dispatched limit v v' (events_left v limit)) (view : View) (is : view ≡ view_at v'.edition v'.board.machine) where
     same : view ≡ view_at start.edition d.b
     same = is ∙ ap (λ e. view_at e v'.board.machine) (d.meets.one.same.edition ∙ p.under.edition) ∙ ap (view_at start.edition) d.meets.machine
@@ -144,44 +153,44 @@ module _ (limit : ℕ) (start v v' : VipState) (counts : Counts) (p : Profiling 
     on : v.board.machine.cycle ≤ v'.board.machine.cycle
     on = later v v' p.follows follows d.meets.one.same d.meets.one.met
 
-    behind : last_cycle (views_of start.edition p.done) ≤ view.cycle
+    behind : last_of (views_of start.edition p.done) ≤ view.cycle
     behind = omega (arith, p.in_time, on, cycle)
 
-    pub awaits-next : Awaits counts view
+    pub awaits-next : Awaits profile.counts (point_of view)
     awaits-next = record {
-      views = views_of start.edition p.done;
-      counted = p.counted;
-      few = let few = views-few start.edition p.done in let all = few-met v' follows in omega (arith, few, p.met, d.meets.one.met, all);
+      points = met_points (views_of start.edition p.done);
+      counted = p.counted.counted;
+      few = rw length-map (let few = views-few start.edition p.done in let all = few-met v' follows in omega (arith, few, p.met, d.meets.one.met, all));
       behind = behind;
       in_time = omega (arith, cycle, follows.in_time);
     }
 
-    pub profiling-dispatch : (counts' : Counts)
-        → ((views : List View) → Counted counts views → last_cycle views ≤ view.cycle → Counted counts' (views ++ view ∷ []))
-        → Profiling limit start v' counts'
-    profiling-dispatch counts' meets = record {
+    pub profiling-dispatch : (profile' : Profile)
+        → ((views : List View) → Profiles profile views → last_cycle (met_points views) ≤ view.cycle → Profiles profile' (views ++ view ∷ []))
+        → Profiling limit start v' profile'
+    profiling-dispatch profile' meets = record {
       done = p.done ++ Dispatch d.b ∷ [];
       under = under-dispatch limit start v v' p.done p.under d;
       follows = follows;
-      counted = subst (Counted counts') points (meets (views_of start.edition p.done) p.counted behind);
+      counted = subst (Profiles profile') points (meets (views_of start.edition p.done) p.counted behind);
       met = rw length-append (omega (arith, p.met, d.meets.one.met));
       in_time =
-          let last = ap last_cycle (sym points) ∙ last_cycle-more (views_of start.edition p.done) view in
+          let last = ap last_of (sym points) ∙ last_of-more (views_of start.edition p.done) view in
           omega (arith, last, cycle);
     }
       where
         points : views_of start.edition p.done ++ view ∷ [] ≡ views_of start.edition (p.done ++ Dispatch d.b ∷ [])
         points = ap (λ v. views_of start.edition p.done ++ v ∷ []) same ∙ sym (dispatches-more start.edition p.done d.b)
 
-  pub profiling-picture : (d : Pictured limit v v' (events_left v limit)) → Profiling limit start v' counts
+  pub profiling-picture : (d : Pictured limit v v' (events_left v limit)) → Profiling limit start v' profile
   profiling-picture d = record {
     done = p.done ++ Picture d.m ∷ [];
     under = under-picture limit start v v' p.done p.under d;
     follows = follows;
-    counted = subst (Counted counts) points p.counted;
+    counted = subst (Profiles profile) points p.counted;
     met = rw length-append (omega (arith, p.met, d.meets.one.met));
     in_time =
-        let last = ap last_cycle (sym points) in let on = later v v' p.follows follows d.meets.one.same d.meets.one.met in
+        let last = ap last_of (sym points) in let on = later v v' p.follows follows d.meets.one.same d.meets.one.met in
         omega (arith, last, on, p.in_time);
   }
     where
@@ -190,34 +199,32 @@ module _ (limit : ℕ) (start v v' : VipState) (counts : Counts) (p : Profiling 
 
 -- ---- the end
 
-ended-with : (limit : ℕ) (start v v' : VipState) (counts : Counts) (done : List Event) (end : RunEnd) → Profiling limit start v counts
-    → Through limit start v' done end → Counted counts (views_of start.edition done) → last_cycle (views_of start.edition done) ≤ v.board.machine.cycle
-    → length (views_of start.edition done) ≤ v.met → CountsRun start limit counts end
-ended-with limit start v v' counts done end p t counted in_time few =
-    let counted' : Counted counts (views_of start.edition (events_to start limit)) = rw t.all counted in
-    record {
-      counted = counted';
-      count =
-          record {
-            views = views_of start.edition done;
-            counted = counted;
-            few = let all = few-met v p.follows in omega (arith, few, all);
-            in_time = omega (arith, in_time, p.follows.in_time);
-          };
-      ending = t.ending;
-    }
+ended-with : (limit : ℕ) (start v v' : VipState) (profile : Profile) (done : List Event) (end : RunEnd) → Profiling limit start v profile
+    → Through limit start v' done end → Profiles profile (views_of start.edition done) → last_of (views_of start.edition done) ≤ v.board.machine.cycle
+    → length (views_of start.edition done) ≤ v.met → ProfilesRun start limit profile end
+ended-with limit start v v' profile done end p t counted in_time few = record {
+  profiles = rw t.all counted;
+  count =
+      record {
+        points = met_points (views_of start.edition done);
+        counted = counted.counted;
+        few = rw length-map (let all = few-met v p.follows in omega (arith, few, all));
+        in_time = omega (arith, in_time, p.follows.in_time);
+      };
+  ending = t.ending;
+}
 
-module _ (limit : ℕ) (start v v' : VipState) (counts : Counts) (p : Profiling limit start v counts) where
+module _ (limit : ℕ) (start v v' : VipState) (profile : Profile) (p : Profiling limit start v profile) where
   few : length (views_of start.edition p.done) ≤ v.met
   few = let points = views-few start.edition p.done in omega (arith, points, p.met)
 
-  pub counted-end : (e : Ended limit v v' (events_left v limit)) → CountsRun start limit counts run.AtLimit
-  counted-end e = ended-with limit start v v' counts p.done run.AtLimit p (through-end limit start v v' p.done p.under e) p.counted p.in_time few
+  pub counted-end : (e : Ended limit v v' (events_left v limit)) → ProfilesRun start limit profile run.AtLimit
+  counted-end e = ended-with limit start v v' profile p.done run.AtLimit p (through-end limit start v v' p.done p.under e) p.counted p.in_time few
 
-  pub counted-stop : (stop : StopRecord) (h : Halted limit v v' (events_left v limit) stop) → CountsRun start limit counts (run.AtStop stop)
+  pub counted-stop : (stop : StopRecord) (h : Halted limit v v' (events_left v limit) stop) → ProfilesRun start limit profile (run.AtStop stop)
   counted-stop stop h =
-      ended-with limit start v v' counts (p.done ++ Stopped h.b ∷ []) (run.AtStop stop) p (through-stop limit start v v' p.done p.under stop h)
-      (subst (Counted counts) points p.counted) (subst (λ views. last_cycle views ≤ v.board.machine.cycle) points p.in_time)
+      ended-with limit start v v' profile (p.done ++ Stopped h.b ∷ []) (run.AtStop stop) p (through-stop limit start v v' p.done p.under stop h)
+      (subst (Profiles profile) points p.counted) (subst (λ views. last_of views ≤ v.board.machine.cycle) points p.in_time)
       (subst (λ views. length views ≤ v.met) points few)
     where
       points : views_of start.edition p.done ≡ views_of start.edition (p.done ++ Stopped h.b ∷ [])
@@ -225,10 +232,18 @@ module _ (limit : ℕ) (start v v' : VipState) (counts : Counts) (p : Profiling 
 
 -- ---- what goes out
 
-module _ (start : VipState) (limit : ℕ) (counts : Counts) (end : RunEnd) (c : CountsRun start limit counts end) (text piece : List ℕ)
-    (written : (views : List View) → Counted counts views → text ≡ profile_text views) (is : piece ≡ text) where
+module _ (start : VipState) (limit : ℕ) (profile : Profile) (end : RunEnd) (c : ProfilesRun start limit profile end) (text piece : List ℕ)
+    (written :
+    (points : List Point) (code : ℕ → Code) → Counted profile.counts points
+    → ((pc : ℕ) → pc < addresses → code_of (slice_index_or profile.opcodes.last.items pc None) ≡ code pc) → text ≡ text_of title code points)
+    (is : piece ≡ text) where
+  abbrev views : List View
+  views = views_of start.edition (events_to start limit)
+
   text_is : piece ≡ profile_text (views_of start.edition (events_to start limit))
-  text_is = is ∙ written (views_of start.edition (events_to start limit)) c.counted
+  unfolding profile_text
+  text_is =
+      is ∙ written (met_points views) (λ pc. code_of (opcode_at views pc)) c.profiles.counted (λ pc below. ap code_of (c.profiles.last pc None below))
 
   pub profile-whole : (out out' : SinkMeaning) → PutsWhole piece out out'
       → ShowAnswers start limit (profile_pieces start.edition (events_to start limit)) out out' (Ok end)

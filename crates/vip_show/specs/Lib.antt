@@ -1,10 +1,8 @@
 pub mod Endings
 pub mod Output
+pub mod Digests
 pub mod Answers
 pub mod Run
 pub mod Written
 pub mod StateOutput
 pub mod Profile
-pub mod Figures
-pub mod Frames
-pub mod Counts

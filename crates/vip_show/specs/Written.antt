@@ -4,7 +4,7 @@ use Rattle.std.specs.Int.{w64, to_be_bytes}
 use Rattle.machine.specs.Bank.{Bank, get}
 use Rattle.machine.specs.Board.{Machine}
 use Rattle.chip8_lang.specs.declared.view.Edition.{Edition}
-use Rattle.vip_cpu.specs.Bit.{bit}
+use Rattle.machine.specs.Bit.{bit}
 use Rattle.vip_text.specs.StateFile.{head, edition_byte}
 
 -- R(0) up to before R(n)

@@ -78,7 +78,7 @@ fn put_event<O: Sink>(
 }
 
 /// Copies the screen at the dispatch point where the board stands, where it is asked for.
-fn keep_screen(run: &Run, is_asked: bool, screen: &mut Screen)
+pub(crate) fn keep_screen(run: &Run, is_asked: bool, screen: &mut Screen)
     requires size { length screen.old.items ≡ screen_size run.now.edition }
     ensures screen { IsTrue is_asked → screen.new.items ≡ screen_bytes run.now.edition run.now.board.machine }
     ensures size { length screen.new.items ≡ screen_size run.now.edition }
@@ -89,7 +89,7 @@ fn keep_screen(run: &Run, is_asked: bool, screen: &mut Screen)
 }
 
 /// The screen that is told of before any event is met: dark, or that of the dispatch point at which the run starts.
-fn start_screen(run: &Run) -> Screen
+pub(crate) fn start_screen(run: &Run) -> Screen
     requires { IsFresh run.now }
     ensures screen { result.items ≡ run.now.shown }
     ensures size { length result.items ≡ screen_size run.now.edition }

@@ -2,7 +2,7 @@
 
 ghost use Rattle.std.specs.Prelude.{◌≡◌, ◌+◌, ◌*◌, ◌<◌, ◌≤◌, ◌++◌, [], length, slice_range};
 ghost use Rattle.arrayvec.specs.ArrayVec.{array_vec_len};
-ghost use Rattle.vip_cpu.specs.Bit.{bit};
+ghost use Rattle.machine.specs.Bit.{bit};
 ghost use Rattle.vip_text.specs.StateFile.{edition_byte};
 ghost use Rattle.vip_show.specs.Written.{file_of, head_of, register_bytes};
 

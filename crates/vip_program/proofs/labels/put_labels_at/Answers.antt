@@ -7,7 +7,7 @@ use Rattle.vip_program.proofs.labels.put_labels_at.Goals as goal
 pub loop-line-init : goal.loop-line-init
 loop-line-init g c = record {
   puts = PutsAll-nil _;
-  rest = sym (c.into_iter-line-iterator.ensures.into_iter_gives ∙ c.lines_at-line-items.ensures);
+  rest = sym (c.into_iter-line-iterator.ensures.into_iter_gives ∙ c.labels_over-line-items.ensures);
 }
 
 pub loop-line-preserved : goal.loop-line-preserved

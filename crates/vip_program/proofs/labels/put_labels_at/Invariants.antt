@@ -1,5 +1,5 @@
 use Rattle.std.proofs.Common.{◌≡◌, ◌++◌, map}
-use Rattle.asm_core.specs.Labels.{label_lines}
+use Rattle.asm_core.specs.Origins.{labels_over}
 use Rattle.vip_outside.specs.Pieces.{PutsAll}
 use Rattle.vip_program.proofs.labels.put_labels_at.Given as goal
 
@@ -7,5 +7,5 @@ use Rattle.vip_program.proofs.labels.put_labels_at.Given as goal
 abbrev pub invariant-loop-line : goal.invariant-loop-line
 invariant-loop-line g l = record {
   puts : PutsAll (map (λ line. line.now) l.yielded) (g.O.Sink.meaning l.fn.out) (g.O.Sink.meaning l.out);
-  rest : label_lines l.labels l.address ≡ map (λ line. line.now) l.yielded ++ l.line-iterator;
+  rest : labels_over l.origins l.address ≡ map (λ line. line.now) l.yielded ++ l.line-iterator;
 }

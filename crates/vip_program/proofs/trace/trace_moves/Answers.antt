@@ -5,18 +5,18 @@ use Rattle.vip_program.proofs.trace.trace_moves.Goals as goal
 pub loop-made-preserved : goal.loop-made-preserved
 loop-made-preserved g c =
     tracing-next _ _ _ _ _ _ _ _ _ _ c.loop-made.invariant _ c.next_line-made.ensures.line _ _ c.next_line-made.ensures.boundary
-    (rw (← c.next_place-place.ensures c.args.labels.now) at c.in_ok-put_labels.ensures)
+    (rw c.next_place-place.ensures at c.in_ok-put_labels.ensures)
     (rw c.as_slice.ensures.value at c.in_ok-put.ensures.answer)
 
 pub returns-in_err-put_labels : goal.returns-in_err-put_labels
 returns-in_err-put_labels g c =
     fails-at-label _ _ _ _ _ _ _ _ _ _ c.loop-made.invariant _ c.next_line-made.ensures.line _ _ c.from_residual.ensures.0
-    (rw (← c.next_place-place.ensures c.args.labels.now) at c.in_err-put_labels.ensures)
+    (rw c.next_place-place.ensures at c.in_err-put_labels.ensures)
 
 pub returns-in_err-put : goal.returns-in_err-put
 returns-in_err-put g c =
     fails-at _ _ _ _ _ _ _ _ _ _ c.loop-made.invariant _ c.next_line-made.ensures.line _ _ _ c.from_residual-in_err-put.ensures.0
-    (rw (← c.next_place-place.ensures c.args.labels.now) at c.in_ok-put_labels.ensures)
+    (rw c.next_place-place.ensures at c.in_ok-put_labels.ensures)
     (rw c.as_slice.ensures.value at c.in_err-put.ensures.answer)
 
 pub returns-else-goes_on : goal.returns-else-goes_on
