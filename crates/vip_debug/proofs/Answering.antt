@@ -1,6 +1,7 @@
 -- What a command writes, by the board and by what it tells.
 use Rattle.std.proofs.Common.{◌≡◌, ℕ, Bool, true, false, List, [], ◌∷◌, ◌++◌, take, refl, sym, ap, ◌∙◌, Some, None, Option}
 use Rattle.std.specs.Prelude.{if◌then◌else◌, codes}
+use Rattle.asm_core.specs.Origins.{labels_over}
 use Rattle.machine.specs.Board.{Machine}
 use Rattle.chip8_lang.specs.declared.view.StopRecord.{StopRecord}
 use Rattle.chip8_lang.specs.Events.{is_stop}
@@ -36,11 +37,11 @@ module _ (looks : Looks) (v : VipState) (f : Follows v) where
 
 module _ (looks : Looks) (v : VipState) (f : Follows v) where
   pub code-told : (address count : ℕ)
-      → code_lines (clear_reads (record { ram = v.board.machine.ram; rom = v.board.rom; latch = v.board.machine.latch })) looks.labels address count
+      → code_lines (clear_reads (record { ram = v.board.machine.ram; rom = v.board.rom; latch = v.board.machine.latch })) (labels_over looks.origins) address count
       ≡ told looks (begun v) (Code address count) (place_of v)
   code-told address count =
-      ap (λ rom. code_lines (clear_byte rom v.board.machine) looks.labels address count) f.rom
-      ∙ ap (λ (b : Machine). code_lines (clear_byte (interpreter v).rom b) looks.labels address count) f.machine
+      ap (λ rom. code_lines (clear_byte rom v.board.machine) (labels_over looks.origins) address count) f.rom
+      ∙ ap (λ (b : Machine). code_lines (clear_byte (interpreter v).rom b) (labels_over looks.origins) address count) f.machine
 
 -- ---- where the board stands
 

@@ -6,6 +6,7 @@ use Rattle.std.proofs.Math.Seq.{drop-append_seam, take-length}
 use Rattle.std.proofs.lemmas.Bool.{eqb-true}
 use Rattle.std.proofs.lemmas.List.Elements.{filter_map-append}
 use Rattle.std.proofs.lemmas.List.Folds.{find_at}
+use Rattle.asm_core.specs.Origins.{labels_over}
 use Rattle.machine.specs.Board.{Machine, case_of, move}
 use Rattle.machine.specs.Instruction.{at}
 use Rattle.machine.specs.Keys.{Event as KeyEvent, held_at}
@@ -487,12 +488,12 @@ module _ (e : Edition) (s : Start) (script script' : List KeyEvent) (begins : is
     told_same : (telling : Telling) → told looks v telling p ≡ told looks u telling q
     told_same State = ap (λ last. state_line looks.columns (option_map (view_at e) last) ∷ []) met_on
     told_same Screen = ap (λ last. screen_text e (option_map_or (screen_bytes e) last (replicate (screen_size e) 0)) ∷ []) met_on
-    told_same (Code address count) = ap (λ b. code_lines (clear_byte i.rom b) looks.labels address count) (state_on j)
+    told_same (Code address count) = ap (λ b. code_lines (clear_byte i.rom b) (labels_over looks.origins) address count) (state_on j)
 
     one_same : (c : Command) → SamePieces c p q
     one_same (Runs running) = record { lines = running_same running; places = (ran_both running).places }
     one_same (Shows showing) =
-        record { lines = ap (λ b. shown looks.labels i.rom b showing) (state_on j); places = record { j = j; left = refl; right = refl } }
+        record { lines = ap (λ b. shown looks.origins i.rom b showing) (state_on j); places = record { j = j; left = refl; right = refl } }
     one_same (Seeks seeking) = record { lines = seeking_same seeking; places = (sought_both seeking).places }
     one_same (Tells telling) = record { lines = told_same telling; places = record { j = j; left = refl; right = refl } }
 

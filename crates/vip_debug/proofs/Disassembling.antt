@@ -159,14 +159,14 @@ line-joined layout at shown three part piece whole front empty line none before 
     ∙ ap (λ n. front_text layout at (take n three) ++ ended_line Cdp1802 at part) size
 
 -- at whatever error is passed on
-pub line-fails : (labels : List (ℕ × List ℕ)) (layout : Layout) (byte : ℕ → ℕ) (at : ℕ) (old new : SinkMeaning) (r : Result ℕ Failed) → IsErr r
+pub line-fails : (labels : ℕ → List (List ℕ)) (layout : Layout) (byte : ℕ → ℕ) (at : ℕ) (old new : SinkMeaning) (r : Result ℕ Failed) → IsErr r
     → FailsWithin (pieces_in labels layout at (bytes_from byte at (0x10000 - at))) old new → PutsLine labels layout byte at old new r
 line-fails labels layout byte at old new (Ok shown) bad fault = cc
 line-fails labels layout byte at old new (Err e) bad fault = fault
 
 -- ---- one line after another
 
-module _ (labels : List (ℕ × List ℕ)) (layout : Layout) (byte : ℕ → ℕ) where
+module _ (labels : ℕ → List (List ℕ)) (layout : Layout) (byte : ℕ → ℕ) where
   abbrev pub lines_left : ℕ → ℕ → List (List ℕ)
   lines_left at count = lines_of labels layout (take count (starts Cdp1802 0 at (bytes_from byte at (0x10000 - at))))
 

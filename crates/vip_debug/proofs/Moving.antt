@@ -2,6 +2,7 @@
 use Rattle.std.proofs.Common.{◌≡◌, inl, inr, ℕ, ◌+◌, ◌-◌, ◌<◌, ◌≤◌, Bool, true, false, refl, sym, ap, ◌∙◌, subst, arith, Some, None, Option, List}
 use Rattle.std.specs.Prelude.{◌==◌, if◌then◌else◌, slice_get, find, []}
 use Rattle.std.proofs.lemmas.Bool.Decides.{nat_tests}
+use Rattle.asm_core.specs.Origins.{Origins}
 use Rattle.machine.specs.Board.{Machine}
 use Rattle.machine.specs.Instruction.{Regs}
 use Rattle.vip_memory.specs.Contents.{Contents}
@@ -70,12 +71,12 @@ run-here v f =
     ∙ ap (λ b. record { rom = (interpreter v).rom; script = v.board.script; first = b; ends = is_stop (interpreter v) }) f.machine
 
 -- what is shown of the board
-pub shown-here : (labels : List (ℕ × List ℕ)) (v : VipState) → Follows v → (b : Seen) → b ≡ v.board → (showing : Showing)
-    → shown labels b.rom b.machine showing ≡ shown labels (interpreter v).rom (state_after v v.moves) showing
-shown-here labels v f b is showing =
-    ap (λ (x : Seen). shown labels x.rom x.machine showing) is
-    ∙ ap (λ rom. shown labels rom v.board.machine showing) f.rom
-    ∙ ap (λ machine. shown labels (interpreter v).rom machine showing) f.machine
+pub shown-here : (origins : Origins) (v : VipState) → Follows v → (b : Seen) → b ≡ v.board → (showing : Showing)
+    → shown origins b.rom b.machine showing ≡ shown origins (interpreter v).rom (state_after v v.moves) showing
+shown-here origins v f b is showing =
+    ap (λ (x : Seen). shown origins x.rom x.machine showing) is
+    ∙ ap (λ rom. shown origins rom v.board.machine showing) f.rom
+    ∙ ap (λ machine. shown origins (interpreter v).rom machine showing) f.machine
 
 -- ---- commands that run the board, whatever runs on it
 

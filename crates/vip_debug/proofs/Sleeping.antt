@@ -2,6 +2,7 @@
 use Rattle.std.proofs.Common.{◌≡◌, inl, inr, ℕ, zero, suc, ◌+◌, ◌-◌, ◌<◌, ◌≤◌, ◌↔◌, Bool, true, false, List, [], ◌∷◌, ◌++◌, length, refl, sym, ap, ◌∙◌, subst, arith, min, nat_le, Result, Ok, Err, IsErr}
 use Rattle.std.specs.Prelude.{◌==◌, if◌then◌else◌, codes}
 use Rattle.std.proofs.lemmas.Bool.Decides.{nat_tests}
+use Rattle.asm_core.specs.Origins.{Origins}
 use Rattle.machine.specs.Board.{Machine, length_of}
 use Rattle.machine.specs.Instruction.{Regs}
 use Rattle.machine.specs.Keys.{Event, held_at}
@@ -172,61 +173,61 @@ module _ (limit : ℕ) (pieces : Machine → List (List ℕ)) (after : Machine �
 
 -- ---- steps
 
-module _ (labels : List (ℕ × List ℕ)) (limit count : ℕ) (old : Seen) where
+module _ (origins : Origins) (limit count : ℕ) (old : Seen) where
   abbrev steps : Came
   steps = comes old.rom old.script limit (Step count) old.machine
 
   ahead_same : moves_ahead old limit count ≡ steps.moves
   ahead_same = ap (min count) (moves-same old limit)
 
-  pub steps-fail : (new : Seen) (out out' : SinkMeaning) (r : Result (Unit {0}) Failed) → IsErr r → TraceFails labels count limit old new out out'
-      → OneAnswers limit (ran_lines old.rom old.script limit labels (Step count)) (comes_to old.rom old.script limit (Step count)) old new out out' r
+  pub steps-fail : (new : Seen) (out out' : SinkMeaning) (r : Result (Unit {0}) Failed) → IsErr r → TraceFails origins count limit old new out out'
+      → OneAnswers limit (ran_lines old.rom old.script limit origins (Step count)) (comes_to old.rom old.script limit (Step count)) old new out out' r
   steps-fail new out out' r bad t =
-      let made = lines old.rom (held_at old.script) labels old.machine steps.moves in
+      let made = lines old.rom (held_at old.script) origins old.machine steps.moves in
       let ended = ended_lines (comes_to old.rom old.script limit (Step count) old.machine) steps.completed [] in
-      one-fails limit (ran_lines old.rom old.script limit labels (Step count)) (comes_to old.rom old.script limit (Step count)) old new out out' r bad
-      (FailsWithin-more made ended out out' (subst (λ n. FailsWithin (lines old.rom (held_at old.script) labels old.machine n) out out') ahead_same t.fails))
+      one-fails limit (ran_lines old.rom old.script limit origins (Step count)) (comes_to old.rom old.script limit (Step count)) old new out out' r bad
+      (FailsWithin-more made ended out out' (subst (λ n. FailsWithin (lines old.rom (held_at old.script) origins old.machine n) out out') ahead_same t.fails))
 
   pub steps-done : (new : Seen) (out middle out' : SinkMeaning) (made : ℕ) (r : Result (Unit {0}) Failed) → old.phase ≡ Boundary → old.machine.cycle ≤ limit
-      → Traces labels count limit old new out middle made → StreamAnswers (ended_lines new.machine (made == count) []) middle out' r
-      → OneAnswers limit (ran_lines old.rom old.script limit labels (Step count)) (comes_to old.rom old.script limit (Step count)) old new out out' r
+      → Traces origins count limit old new out middle made → StreamAnswers (ended_lines new.machine (made == count) []) middle out' r
+      → OneAnswers limit (ran_lines old.rom old.script limit origins (Step count)) (comes_to old.rom old.script limit (Step count)) old new out out' r
   steps-done new out middle out' made r phase within t rest =
       let all : made ≡ steps.moves = t.all ∙ ahead_same in
       let few : made ≤ moves_until (run_from sleeps old) limit = omega (arith, all) in
       let stands = stands-by limit old made new phase within t.moved few in
       let there = subst (λ n. StandsAs limit old (state_of (run_from sleeps old) n) new) all stands in
       let done : (made == count) ≡ steps.completed = tested made (moves_until (run_from sleeps old) limit) all in
-      let first = lines old.rom (held_at old.script) labels old.machine steps.moves in
-      one-further limit (ran_lines old.rom old.script limit labels (Step count)) (comes_to old.rom old.script limit (Step count)) old new out out'
+      let first = lines old.rom (held_at old.script) origins old.machine steps.moves in
+      one-further limit (ran_lines old.rom old.script limit origins (Step count)) (comes_to old.rom old.script limit (Step count)) old new out out'
       first (ended_lines new.machine (made == count) []) middle r
       (ap (λ b. first ++ ended_lines b (made == count) []) there.machine
       ∙ ap (λ c. first ++ ended_lines (comes_to old.rom old.script limit (Step count) old.machine) c []) done)
-      (subst (λ n. PutsAll (lines old.rom (held_at old.script) labels old.machine n) out middle) ahead_same t.puts) rest there
+      (subst (λ n. PutsAll (lines old.rom (held_at old.script) origins old.machine n) out middle) ahead_same t.puts) rest there
     where
       tested : (made most : ℕ) → made ≡ min count most → (made == count) ≡ nat_le count most
       tested made most is = grind (arith, nat_tests)
 
 -- ---- other commands
 
-pub other-lines : (rom : List ℕ) (script : List Event) (limit : ℕ) (labels : List (ℕ × List ℕ)) (running : Running) → ((count : ℕ) → running ≡ Step count → ⊥)
-    → gone_lines rom script limit labels running ≡ ran_lines rom script limit labels running
-other-lines rom script limit labels (Step count) not = absurd (not count refl)
-other-lines rom script limit labels _ not = refl
+pub other-lines : (rom : List ℕ) (script : List Event) (limit : ℕ) (origins : Origins) (running : Running) → ((count : ℕ) → running ≡ Step count → ⊥)
+    → gone_lines rom script limit origins running ≡ ran_lines rom script limit origins running
+other-lines rom script limit origins (Step count) not = absurd (not count refl)
+other-lines rom script limit origins _ not = refl
 
 -- ---- all commands
 
 -- some are run
-pub record Ran (labels : List (ℕ × List ℕ)) (limit : ℕ) (old s : Seen) (done : List Spoken) (out out' : SinkMeaning) : Type 0 where
+pub record Ran (origins : Origins) (limit : ℕ) (old s : Seen) (done : List Spoken) (out out' : SinkMeaning) : Type 0 where
   pub stands : StandsAs limit old (machine_with old limit done) s
-  pub puts : PutsAll (program_written labels old limit done) out out'
+  pub puts : PutsAll (program_written origins old limit done) out out'
 
-module _ (labels : List (ℕ × List ℕ)) (limit : ℕ) (old s : Seen) (done : List Spoken) (spoken : Spoken) (out out' : SinkMeaning)
-    (r : Ran labels limit old s done out out') where
+module _ (origins : Origins) (limit : ℕ) (old s : Seen) (done : List Spoken) (spoken : Spoken) (out out' : SinkMeaning)
+    (r : Ran origins limit old s done out out') where
   abbrev after : Command → Machine → Machine
   after = machine_after old.rom old.script limit
 
   abbrev pieces : Command → Machine → List (List ℕ)
-  pieces = program_pieces old.rom old.script limit labels
+  pieces = program_pieces old.rom old.script limit origins
 
   abbrev echo : List (List ℕ)
   echo = option_to_list spoken.echo
@@ -240,13 +241,13 @@ module _ (labels : List (ℕ × List ℕ)) (limit : ℕ) (old s : Seen) (done : 
       ∙ ap (λ script. f old.rom script s.machine) r.stands.script
       ∙ ap (f old.rom old.script) r.stands.machine
 
-  answer_is : program_pieces s.rom s.script limit labels spoken.command s.machine ≡ answer
-  answer_is = from_here (λ rom script b. program_pieces rom script limit labels spoken.command b)
+  answer_is : program_pieces s.rom s.script limit origins spoken.command s.machine ≡ answer
+  answer_is = from_here (λ rom script b. program_pieces rom script limit origins spoken.command b)
 
   pub ran-more : (new : Seen) (middle out'' : SinkMeaning) → PutsAll echo out' middle
-      → PutsAll (program_pieces s.rom s.script limit labels spoken.command s.machine) middle out''
+      → PutsAll (program_pieces s.rom s.script limit origins spoken.command s.machine) middle out''
       → StandsAs limit s (machine_after s.rom s.script limit spoken.command s.machine) new
-      → Ran labels limit old new (done ++ spoken ∷ []) out out''
+      → Ran origins limit old new (done ++ spoken ∷ []) out out''
   ran-more new middle out'' first puts stands = record {
     stands = record {
       phase = stands.phase;
@@ -258,31 +259,31 @@ module _ (labels : List (ℕ × List ℕ)) (limit : ℕ) (old s : Seen) (done : 
     };
     puts =
         subst (λ ps. PutsAll ps out out'') (sym (pieces-last after pieces done spoken old.machine))
-        (PutsAll-append (program_written labels old limit done) (echo ++ answer) out out' out'' r.puts
+        (PutsAll-append (program_written origins old limit done) (echo ++ answer) out out' out'' r.puts
         (PutsAll-append echo answer out' middle out'' first (subst (λ ps. PutsAll ps middle out'') answer_is puts)));
   }
 
   breaks_off : (all rest : List Spoken) (out'' : SinkMeaning) → all ≡ done ++ spoken ∷ rest → FailsWithin (echo ++ answer) out' out''
-      → FailsWithin (program_written labels old limit all) out out''
+      → FailsWithin (program_written origins old limit all) out out''
   breaks_off all rest out'' split fault =
       let others = all_pieces after pieces rest (after spoken.command (machine_with old limit done)) in
-      subst (λ ps. FailsWithin ps out out'') (sym (ap (program_written labels old limit) split ∙ pieces-more after pieces done spoken rest old.machine))
-      (FailsWithin-append (program_written labels old limit done) ((echo ++ answer) ++ others) out out' out'' r.puts
+      subst (λ ps. FailsWithin ps out out'') (sym (ap (program_written origins old limit) split ∙ pieces-more after pieces done spoken rest old.machine))
+      (FailsWithin-append (program_written origins old limit done) ((echo ++ answer) ++ others) out out' out'' r.puts
       (FailsWithin-more (echo ++ answer) others out' out'' fault))
 
   -- a put of the echo failed, or one of the answer
   pub echo-fails : (all rest : List Spoken) (out'' : SinkMeaning) → all ≡ done ++ spoken ∷ rest → FailsWithin echo out' out''
-      → FailsWithin (program_written labels old limit all) out out''
+      → FailsWithin (program_written origins old limit all) out out''
   echo-fails all rest out'' split fault = breaks_off all rest out'' split (FailsWithin-more echo answer out' out'' fault)
 
   pub ran-fails : (all rest : List Spoken) (middle out'' : SinkMeaning) → all ≡ done ++ spoken ∷ rest → PutsAll echo out' middle
-      → FailsWithin (program_pieces s.rom s.script limit labels spoken.command s.machine) middle out''
-      → FailsWithin (program_written labels old limit all) out out''
+      → FailsWithin (program_pieces s.rom s.script limit origins spoken.command s.machine) middle out''
+      → FailsWithin (program_written origins old limit all) out out''
   ran-fails all rest middle out'' split first fault =
       breaks_off all rest out'' split
       (FailsWithin-append echo answer out' middle out'' first (subst (λ ps. FailsWithin ps middle out'') answer_is fault))
 
-pub program-fails : (labels : List (ℕ × List ℕ)) (limit : ℕ) (commands : List Spoken) (old new : Seen) (out out' : SinkMeaning) (r : Result ProgramEnd Failed) → IsErr r
-    → FailsWithin (program_written labels old limit commands) out out' → ProgramAnswers labels limit commands old new out out' r
-program-fails labels limit commands old new out out' (Ok end) bad fault = cc
-program-fails labels limit commands old new out out' (Err e) bad fault = fault
+pub program-fails : (origins : Origins) (limit : ℕ) (commands : List Spoken) (old new : Seen) (out out' : SinkMeaning) (r : Result ProgramEnd Failed) → IsErr r
+    → FailsWithin (program_written origins old limit commands) out out' → ProgramAnswers origins limit commands old new out out' r
+program-fails origins limit commands old new out out' (Ok end) bad fault = cc
+program-fails origins limit commands old new out out' (Err e) bad fault = fault

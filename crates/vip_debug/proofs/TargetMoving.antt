@@ -2,6 +2,8 @@
 use Rattle.std.proofs.Common.{◌≡◌, ◌⊎◌, inl, inr, ℕ, zero, suc, ◌+◌, ◌-◌, ◌<◌, ◌≤◌, Bool, true, false, List, [], ◌∷◌, ◌++◌, length, not, bytes_eq, refl, sym, ap, ap₂, ◌∙◌, subst, arith, min, nat_le, Some, None}
 use Rattle.std.specs.Prelude.{◌==◌, find, if◌then◌else◌}
 use Rattle.std.specs.List.{range_with_len}
+use Rattle.std.specs.Option.{option_map_or}
+use Rattle.asm_core.specs.Origins.{Origins, labels_over}
 use Rattle.std.proofs.lemmas.Bool.{cases_lt, le-leb, lt-leb}
 use Rattle.std.proofs.lemmas.Bool.Decides.{nat_tests}
 use Rattle.std.proofs.lemmas.Slice.Eq.{bytes_eq-Decides}
@@ -22,8 +24,8 @@ use Rattle.vip_words.specs.declared.debug_commands.Running.TheVariants.{Watch}
 use Rattle.vip_byte.specs.Text.{newline}
 use Rattle.vip_debug.specs.declared.moves.Change.{Change}
 use Rattle.vip_debug.specs.Answered.{completed_lines}
-use Rattle.vip_debug.specs.Commands.{Came, after_steps, at_cycle, found_or_last, starts_in, starts_at, bytes_at}
-use Rattle.vip_program.specs.Lines.{labels_before, line_of}
+use Rattle.vip_debug.specs.Commands.{Came, after_steps, at_cycle, found_or_last, is_at, starts_in, starts_at, bytes_at}
+use Rattle.vip_program.specs.Lines.{line_of, place_in}
 use Rattle.vip_debug.specs.BoardShown.{cycle_text, rows, mem_lines, stretch, has_changed}
 use Rattle.vip_debug.specs.BoardParts.{Arrives, HasMoved, IsShown, labels_by, lines_by, Fits, reads}
 use Rattle.vip_debug.specs.Programs.{changing, comes, run_on}
@@ -261,19 +263,19 @@ module _ {X : Type 0} (seen : X → Seen) (ends : X → Machine → Bool) (leads
 pub unchanged : (address count : ℕ) (bytes : ℕ → ℕ) → has_changed address count bytes bytes ≡ false
 unchanged address count bytes = ap not ((bytes_eq-Decides (stretch bytes address count) (stretch bytes address count)).1 refl)
 
--- where an address isn't that of the next opcode, or no instruction comes next
-starts-apart : (address : ℕ) (b : Machine) → (StartsInstruction b → at b.regs b.regs.p ≡ address → ⊥) → starts_at address b ≡ false
+-- where the next opcode isn't at an address, or no instruction comes next
+starts-apart : (address : ℕ) (b : Machine) → (StartsInstruction b → is_at address b.latch (at b.regs b.regs.p) ≡ true → ⊥) → starts_at address b ≡ false
 starts-apart address b apart = by_case (case_of b) refl
   where
     by_case : (k : Case) → case_of b ≡ k → starts_in k address b ≡ false
     by_case Dma is = refl
     by_case Interrupt is = refl
     by_case Idle is = refl
-    by_case Instruction is = by_test (at b.regs b.regs.p == address) refl
+    by_case Instruction is = by_test (is_at address b.latch (at b.regs b.regs.p)) refl
       where
-        by_test : (t : Bool) → (at b.regs b.regs.p == address) ≡ t → t ≡ false
+        by_test : (t : Bool) → is_at address b.latch (at b.regs b.regs.p) ≡ t → t ≡ false
         by_test false e = refl
-        by_test true e = absurd (apart is (grind (arith, nat_tests, e)))
+        by_test true e = absurd (apart is e)
 
 -- the first number of a range that passes a test, or none
 module _ (test : ℕ → Bool) where
@@ -349,7 +351,7 @@ module _ {X : Type 0} (seen : X → Seen) (ends : X → Machine → Bool) (leads
 
       -- none of them starts at an address before which moves end
       pub starts-between : (address : ℕ)
-          → ((k : ℕ) → 0 < k → k < n → let b = (moved_by k (seen x)).machine in StartsInstruction b → at b.regs b.regs.p ≡ address → ⊥)
+          → ((k : ℕ) → 0 < k → k < n → let b = (moved_by k (seen x)).machine in StartsInstruction b → is_at address b.latch (at b.regs b.regs.p) ≡ true → ⊥)
           → (k : ℕ) → 0 < k → k < n → starts_at address (state_of r (s.moves + k)) ≡ false
       starts-between address apart k some below =
           ap (starts_at address) (sym (state-between k (omega (arith, below)))) ∙ starts-apart address (moved_by k (seen x)).machine (apart k some below)
@@ -465,11 +467,11 @@ module _ (r : Run) (p : Progress) (s : Stands p) (run : p.run ≡ r) (b : Seen) 
       ∙ ap (λ machine. line_of p.run.rom (held_at p.run.script) (machine ∷ [])) s.machine
       ∙ ap (λ x. line_of x.rom (held_at x.script) (state_of x p.made ∷ [])) run
 
-  pub labels-here : (labels : List (ℕ × List ℕ)) → labels_before labels b.machine ≡ labels_before labels (state_of r p.made)
-  labels-here labels =
-      ap (λ (x : Seen). labels_before labels x.machine) is
-      ∙ ap (labels_before labels) s.machine
-      ∙ ap (λ x. labels_before labels (state_of x p.made)) run
+  pub place-here : place_in (case_of b.machine) b.machine ≡ place_in (case_of (state_of r p.made)) (state_of r p.made)
+  place-here =
+      ap (λ (x : Seen). place_in (case_of x.machine) x.machine) is
+      ∙ ap (λ machine. place_in (case_of machine) machine) s.machine
+      ∙ ap (λ x. place_in (case_of (state_of x p.made)) (state_of x p.made)) run
 
 -- ---- so many moves
 
@@ -579,11 +581,11 @@ module _ (r : Run) (limit : ℕ) (came : Came) (s : Seen) (answer : Bool) (a : A
       ap (λ (x : Seen). (cycle_text x.machine ++ newline) ∷ []) is ∙ ap (λ machine. (cycle_text machine ++ newline) ∷ []) a.machine
 
 -- and the labels at the instruction that changed a byte
-pub labels-completed : (labels : List (ℕ × List ℕ)) (rom : List ℕ) (script : List Event) (limit : ℕ) (running : Running) (b : Machine) (change : Change)
+pub labels-completed : (origins : Origins) (rom : List ℕ) (script : List Event) (limit : ℕ) (running : Running) (b : Machine) (change : Change)
     → IsShown running (run_on rom script limit b) (comes rom script limit running b).moves change
-    → labels_by labels running change ≡ changing rom script limit labels running b
-labels-completed labels rom script limit (Watch address count) b change told = sym (told.place labels)
-labels-completed labels rom script limit _ b change told = refl
+    → labels_by origins running change ≡ changing rom script limit origins running b
+labels-completed origins rom script limit (Watch address count) b change told = ap (λ place. option_map_or (labels_over origins) place []) told.place
+labels-completed origins rom script limit _ b change told = refl
 
 pub fits : (running : Running) (r : Run) (k : ℕ) (change : Change) → IsShown running r k change → Fits running change
 fits (Watch address count) r k change told = (

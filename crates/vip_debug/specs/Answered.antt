@@ -1,5 +1,6 @@
 -- What the commands write that speak of the machine, whatever runs on it: each line is a piece of its own.
 use Rattle.std.specs.Prelude.{ℕ, ◌-◌, List, [], ◌∷◌, ◌++◌}
+use Rattle.asm_core.specs.Origins.{Origins, labels_read}
 use Rattle.machine.specs.Board.{Machine, byte_of}
 use Rattle.machine.specs.Keys.{held_at}
 use Rattle.vip_byte.specs.Text.{newline}
@@ -24,8 +25,8 @@ completed_lines r (Watch address count) k = change_lines r address count k
 completed_lines r running k = (cycle_text (state_of r k) ++ newline) ∷ []
 
 -- a command that shows what a machine holds, with a ROM; a listing shows these labels
-abbrev pub shown : List (ℕ × List ℕ) → List ℕ → Machine → Showing → List (List ℕ)
-shown labels rom b Regs = regs_lines b
-shown labels rom b (Mem address count) = mem_lines (byte_of rom b) address count
-shown labels rom b (Dis address count) = instruction_lines (byte_of rom b) labels Source address count
-shown labels rom b (Listed address count) = instruction_lines (byte_of rom b) labels Listing address count
+abbrev pub shown : Origins → List ℕ → Machine → Showing → List (List ℕ)
+shown origins rom b Regs = regs_lines b
+shown origins rom b (Mem address count) = mem_lines (byte_of rom b) address count
+shown origins rom b (Dis address count) = instruction_lines (byte_of rom b) (labels_read origins b.latch) Source address count
+shown origins rom b (Listed address count) = instruction_lines (byte_of rom b) (labels_read origins b.latch) Listing address count

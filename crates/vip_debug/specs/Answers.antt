@@ -3,6 +3,7 @@
 use Rattle.std.specs.Option.{option_to_list}
 use Rattle.std.specs.Prelude.{◌≡◌, ◌⊎◌, ℕ, ◌+◌, ◌-◌, ◌==◌, if◌then◌else◌, Bool, true, false, List, [], ◌∷◌, ◌++◌, length, take, drop, find, filter_map, Option, Some, None, codes, slice_get}
 use Rattle.machine.specs.Board.{Machine}
+use Rattle.asm_core.specs.Origins.{labels_over}
 use Rattle.chip8_lang.specs.declared.view.StopRecord.{StopRecord}
 use Rattle.chip8_lang.specs.Events.{Event, is_stop}
 use Rattle.chip8_lang.specs.View.{view_at}
@@ -127,12 +128,12 @@ seeking_lines looks v a = lines_at v a (trace_line looks.columns (view_at v.edit
 abbrev pub told : Looks → VipState → Telling → Place → List (List ℕ)
 told looks v State p = state_line looks.columns (last_view v.edition (met_at v p)) ∷ []
 told looks v Screen p = screen_text v.edition (last_screen v.edition (met_at v p)) ∷ []
-told looks v (Code address count) p = code_lines (clear_byte (interpreter v).rom (state_after v p.moves)) looks.labels address count
+told looks v (Code address count) p = code_lines (clear_byte (interpreter v).rom (state_after v p.moves)) (labels_over looks.origins) address count
 
 -- each line is a piece of its own, that of a label too
 abbrev pub pieces : Looks → VipState → ℕ → Command → Place → List (List ℕ)
 pieces looks v limit (Runs running) p = running_lines v limit running p
-pieces looks v limit (Shows showing) p = shown looks.labels (interpreter v).rom (state_after v p.moves) showing
+pieces looks v limit (Shows showing) p = shown looks.origins (interpreter v).rom (state_after v p.moves) showing
 pieces looks v limit (Seeks seeking) p = seeking_lines looks v (sought v limit seeking p)
 pieces looks v limit (Tells telling) p = told looks v telling p
 

@@ -1,5 +1,6 @@
 -- What the parts of a command make.
 use Rattle.std.specs.Prelude.{◌≡◌, ◌⊎◌, ℕ, ◌-◌, ◌<◌, ◌≤◌, Bool, false, List, [], ◌∷◌, ◌++◌, length, Result, Ok, Err}
+use Rattle.machine.specs.Board.{case_of}
 use Rattle.machine.specs.Keys.{held_at}
 use Rattle.machine.specs.Memory.{read}
 use Rattle.vip_board.specs.Seen.{Seen}
@@ -18,8 +19,8 @@ use Rattle.vip_cpu.specs.declared.cpu.Phase.TheVariants.{Boundary}
 use Rattle.vip_debug.specs.TargetRun.{Run, state_of}
 use Rattle.vip_debug.specs.BoardShown.{cycle_text, rows, bytes_from, stretch, pieces_in}
 use Rattle.vip_debug.specs.Commands.{Came, bytes_at}
-use Rattle.vip_program.specs.Lines.{line_of, labels_before}
-use Rattle.asm_core.specs.Labels.{label_lines}
+use Rattle.vip_program.specs.Lines.{line_of, place_in}
+use Rattle.asm_core.specs.Origins.{Origins, labels_over}
 use Rattle.std.specs.Option.{option_map_or}
 
 -- ---- moves
@@ -42,7 +43,7 @@ pub record IsChange (r : Run) (address count k : ℕ) (change : Change) : Type 0
   pub line : change.line.items ≡ line_of r.rom (held_at r.script) (state_of r (k - 1) ∷ [])
   pub before : change.before.items ≡ stretch (bytes_at r 0) address count
   pub after : change.after.items ≡ stretch (bytes_at r k) address count
-  pub place : (labels : List (ℕ × List ℕ)) → labels_before labels (state_of r (k - 1)) ≡ option_map_or (label_lines labels) change.place []
+  pub place : change.place ≡ place_in (case_of (state_of r (k - 1))) (state_of r (k - 1))
 
 -- what shows a command that is completed: nothing is needed but the board, or what has changed
 abbrev pub IsShown : Running → Run → ℕ → Change → Type 0
@@ -55,9 +56,9 @@ lines_by (Watch address count) s change = change.line.items ∷ rows address cha
 lines_by running s change = (cycle_text s.machine ++ newline) ∷ []
 
 -- the labels at the instruction that changed it
-abbrev pub labels_by : List (ℕ × List ℕ) → Running → Change → List (List ℕ)
-labels_by labels (Watch address count) change = option_map_or (label_lines labels) change.place []
-labels_by labels running change = []
+abbrev pub labels_by : Origins → Running → Change → List (List ℕ)
+labels_by origins (Watch address count) change = option_map_or (labels_over origins) change.place []
+labels_by origins running change = []
 
 -- what has changed ends at FFFF at the latest
 abbrev pub Fits : Running → Change → Type 0
@@ -75,7 +76,7 @@ abbrev pub clear_reads : Contents → ℕ → ℕ
 clear_reads m address = read m.rom false m.ram address
 
 -- the line of the instruction at an address went out behind those of its labels, and it shows so many bytes
-abbrev pub PutsLine : List (ℕ × List ℕ) → Layout → (ℕ → ℕ) → ℕ → SinkMeaning → SinkMeaning → Result ℕ Failed → Type 0
+abbrev pub PutsLine : (ℕ → List (List ℕ)) → Layout → (ℕ → ℕ) → ℕ → SinkMeaning → SinkMeaning → Result ℕ Failed → Type 0
 PutsLine labels layout byte address old new (Ok shown) =
     PutsAll (pieces_in labels layout address (bytes_from byte address (0x10000 - address))) old new
     × (shown ≡ taken Cdp1802 (bytes_from byte address (0x10000 - address)))

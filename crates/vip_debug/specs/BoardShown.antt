@@ -7,7 +7,6 @@ use Rattle.vip_byte.specs.HexText.{bytes_text, hex2, hex4, words_text}
 use Rattle.vip_byte.specs.Text.{bit_text, newline}
 use Rattle.asm_lex.specs.declared.shape.Isa.TheVariants.{Cdp1802}
 use Rattle.asm_listing.specs.Disassembly.{starts, taken, ended_line}
-use Rattle.asm_core.specs.Labels.{label_lines}
 use Rattle.asm_listing.specs.Listing.{first_digits}
 use Rattle.vip_program.specs.Lines.{selected_text}
 use Rattle.vip_debug.specs.declared.bytes.Layout.{Layout}
@@ -59,15 +58,15 @@ front_text Listing address bytes = hex4 address ++ codes " " ++ first_digits byt
 unfoldable pub line_in : Layout → ℕ → List ℕ → List ℕ
 line_in layout address bytes = front_text layout address (take (taken Cdp1802 bytes) bytes) ++ ended_line Cdp1802 address bytes
 
--- before a line of a listing stand the lines of the labels at its address
-abbrev pub labels_in : List (ℕ × List ℕ) → Layout → ℕ → List (List ℕ)
+-- before a line of a listing stand the lines of labels that are told for its address
+abbrev pub labels_in : (ℕ → List (List ℕ)) → Layout → ℕ → List (List ℕ)
 labels_in labels Source address = []
-labels_in labels Listing address = label_lines labels address
+labels_in labels Listing address = labels address
 
-abbrev pub pieces_in : List (ℕ × List ℕ) → Layout → ℕ → List ℕ → List (List ℕ)
+abbrev pub pieces_in : (ℕ → List (List ℕ)) → Layout → ℕ → List ℕ → List (List ℕ)
 pieces_in labels layout address bytes = labels_in labels layout address ++ line_in layout address bytes ∷ []
 
-abbrev pub lines_of : List (ℕ × List ℕ) → Layout → List (ℕ × List ℕ) → List (List ℕ)
+abbrev pub lines_of : (ℕ → List (List ℕ)) → Layout → List (ℕ × List ℕ) → List (List ℕ)
 lines_of labels layout all = flat_map (λ start. pieces_in labels layout start.0 start.1) all
 
 -- ---- bytes, given by their addresses
@@ -84,7 +83,7 @@ module _ (byte : ℕ → ℕ) where
   mem_lines address count = rows address (stretch address count)
 
   -- so many instructions of the disassembly of all bytes from an address on; the labels among them don't count
-  unfoldable pub instruction_lines : List (ℕ × List ℕ) → Layout → ℕ → ℕ → List (List ℕ)
+  unfoldable pub instruction_lines : (ℕ → List (List ℕ)) → Layout → ℕ → ℕ → List (List ℕ)
   instruction_lines labels layout address count = lines_of labels layout (take count (starts Cdp1802 0 address (bytes_from address (0x10000 - address))))
 
 -- one of the bytes of a stretch isn't what it was

@@ -1,7 +1,6 @@
 -- Opcodes of the language in words, line by line: address, opcode and words, and a last single byte at FFFF as data.
 use Rattle.std.specs.Prelude.{ℕ, ◌+◌, ◌-◌, ◌*◌, ◌/◌, ◌==◌, if◌then◌else◌, min, false, List, [], ◌∷◌, ◌++◌, codes}
 use Rattle.std.specs.List.{flat_map, range_with_len}
-use Rattle.asm_core.specs.Labels.{label_lines}
 use Rattle.machine.specs.Board.{Machine}
 use Rattle.machine.specs.Memory.{read}
 use Rattle.chip8_words.specs.Words.{opcode_words}
@@ -29,10 +28,10 @@ module _ (byte : ℕ → ℕ) where
   abbrev pub code_at : ℕ → ℕ → List ℕ
   code_at address k = code_line (address + 2 * k)
 
-  -- behind the lines of the labels at its address
-  abbrev pub code_pieces : List (ℕ × List ℕ) → ℕ → ℕ → List (List ℕ)
-  code_pieces labels address k = label_lines labels (address + 2 * k) ++ code_at address k ∷ []
+  -- behind the lines of labels that are told for its address
+  abbrev pub code_pieces : (ℕ → List (List ℕ)) → ℕ → ℕ → List (List ℕ)
+  code_pieces labels address k = labels (address + 2 * k) ++ code_at address k ∷ []
 
   -- so many opcodes from an address on, or those up to FFFF; labels don't count
-  abbrev pub code_lines : List (ℕ × List ℕ) → ℕ → ℕ → List (List ℕ)
+  abbrev pub code_lines : (ℕ → List (List ℕ)) → ℕ → ℕ → List (List ℕ)
   code_lines labels address count = flat_map (code_pieces labels address) (range_with_len 0 (min count ((0x10001 - address) / 2)))

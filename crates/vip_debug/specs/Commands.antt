@@ -1,8 +1,9 @@
 -- Where the commands come to that run a board, whatever runs on it. The run begins where the board stands.
-use Rattle.std.specs.Prelude.{ℕ, ◌==◌, Bool, true, false, min, nat_le, find, Option, Some, None}
+use Rattle.std.specs.Prelude.{ℕ, ◌==◌, ◌||◌, Bool, true, false, min, nat_le, find, Option, Some, None}
 use Rattle.machine.specs.Board.{Machine, Case, case_of, byte_of}
 use Rattle.machine.specs.Board.Case.{Instruction}
 use Rattle.machine.specs.Instruction.{at}
+use Rattle.machine.specs.Memory.{mapped_address}
 use Rattle.vip_words.specs.declared.debug_commands.Running.{Running}
 use Rattle.vip_words.specs.declared.debug_commands.Running.TheVariants.{Step, To, At, Watch}
 use Rattle.vip_debug.specs.TargetRun.{Run, state_of, moves_until, ahead}
@@ -26,9 +27,13 @@ abbrev pub found_or_last : Run → ℕ → Option ℕ → Came
 found_or_last r limit (Some k) = record { moves = k; completed = true }
 found_or_last r limit None = record { moves = moves_until r limit; completed = false }
 
+-- an opcode at pc is at an address, or is read from it through the boot latch
+abbrev pub is_at : ℕ → Bool → ℕ → Bool
+is_at address latch pc = (pc == address) || (mapped_address latch pc == address)
+
 -- the next move is the instruction at an address
 abbrev pub starts_in : Case → ℕ → Machine → Bool
-starts_in Instruction address b = at b.regs b.regs.p == address
+starts_in Instruction address b = is_at address b.latch (at b.regs b.regs.p)
 starts_in _ address b = false
 
 abbrev pub starts_at : ℕ → Machine → Bool

@@ -1,5 +1,6 @@
 -- What the commands write on a board that runs any program, and where they leave it: a fold over the commands, whose state is the machine.
 use Rattle.std.specs.Prelude.{◌≡◌, ◌≤◌, ◌-◌, ℕ, if◌then◌else◌, Bool, List, [], ◌∷◌, ◌++◌, Result, Ok, Err, codes}
+use Rattle.asm_core.specs.Origins.{Origins}
 use Rattle.machine.specs.Board.{Machine}
 use Rattle.machine.specs.Keys.{Event, held_at}
 use Rattle.vip_board.specs.Seen.{Seen}
@@ -42,27 +43,27 @@ module _ (rom : List ℕ) (script : List Event) (limit : ℕ) where
   comes_to running b = state_of (run_on b) (comes running b).moves
 
   -- the labels at the instruction that changed what a command watches
-  abbrev pub changing : List (ℕ × List ℕ) → Running → Machine → List (List ℕ)
-  changing labels (Watch address count) b = labels_before labels (state_of (run_on b) ((comes (Watch address count) b).moves - 1))
-  changing labels running b = []
+  abbrev pub changing : Origins → Running → Machine → List (List ℕ)
+  changing origins (Watch address count) b = labels_before origins (state_of (run_on b) ((comes (Watch address count) b).moves - 1))
+  changing origins running b = []
 
   -- what a command writes other than `step`
-  abbrev pub gone_lines : List (ℕ × List ℕ) → Running → Machine → List (List ℕ)
-  gone_lines labels running b =
+  abbrev pub gone_lines : Origins → Running → Machine → List (List ℕ)
+  gone_lines origins running b =
       ended_lines (comes_to running b) (comes running b).completed
-      (changing labels running b ++ completed_lines (run_on b) running (comes running b).moves)
+      (changing origins running b ++ completed_lines (run_on b) running (comes running b).moves)
 
   -- `step` writes the lines of the moves that it makes
-  abbrev pub ran_lines : List (ℕ × List ℕ) → Running → Machine → List (List ℕ)
-  ran_lines labels (Step count) b =
-      lines rom (held_at script) labels b (comes (Step count) b).moves ++ ended_lines (comes_to (Step count) b) (comes (Step count) b).completed []
-  ran_lines labels running b = gone_lines labels running b
+  abbrev pub ran_lines : Origins → Running → Machine → List (List ℕ)
+  ran_lines origins (Step count) b =
+      lines rom (held_at script) origins b (comes (Step count) b).moves ++ ended_lines (comes_to (Step count) b) (comes (Step count) b).completed []
+  ran_lines origins running b = gone_lines origins running b
 
   -- what a command writes, and the machine after it; one that speaks of the language does nothing: no text for a program says it
-  abbrev pub program_pieces : List (ℕ × List ℕ) → Command → Machine → List (List ℕ)
-  program_pieces labels (Runs running) b = ran_lines labels running b
-  program_pieces labels (Shows showing) b = shown labels rom b showing
-  program_pieces labels _ b = []
+  abbrev pub program_pieces : Origins → Command → Machine → List (List ℕ)
+  program_pieces origins (Runs running) b = ran_lines origins running b
+  program_pieces origins (Shows showing) b = shown origins rom b showing
+  program_pieces origins _ b = []
 
   abbrev pub machine_after : Command → Machine → Machine
   machine_after (Runs running) b = comes_to running b
@@ -74,9 +75,9 @@ module _ (rom : List ℕ) (script : List Event) (limit : ℕ) where
 abbrev pub machine_with : Seen → ℕ → List Spoken → Machine
 machine_with s limit commands = after_all (machine_after s.rom s.script limit) commands s.machine
 
-abbrev pub program_written : List (ℕ × List ℕ) → Seen → ℕ → List Spoken → List (List ℕ)
-program_written labels s limit commands =
-    all_pieces (machine_after s.rom s.script limit) (program_pieces s.rom s.script limit labels) commands s.machine
+abbrev pub program_written : Origins → Seen → ℕ → List Spoken → List (List ℕ)
+program_written origins s limit commands =
+    all_pieces (machine_after s.rom s.script limit) (program_pieces s.rom s.script limit origins) commands s.machine
 
 -- the board with another machine, within a limit
 pub record StandsAs (limit : ℕ) (old : Seen) (b : Machine) (new : Seen) : Type 0 where
@@ -87,14 +88,14 @@ pub record StandsAs (limit : ℕ) (old : Seen) (b : Machine) (new : Seen) : Type
   pub within : new.machine.cycle ≤ limit
 
 -- all pieces went out whole; the board is where the commands leave it, and the processor sleeps there or not
-pub record RunsProgram (labels : List (ℕ × List ℕ)) (limit : ℕ) (commands : List Spoken) (old new : Seen) (out out' : SinkMeaning) (end : ProgramEnd) : Type 0 where
-  pub puts : PutsAll (program_written labels old limit commands) out out'
+pub record RunsProgram (origins : Origins) (limit : ℕ) (commands : List Spoken) (old new : Seen) (out out' : SinkMeaning) (end : ProgramEnd) : Type 0 where
+  pub puts : PutsAll (program_written origins old limit commands) out out'
   pub stands : StandsAs limit old (machine_with old limit commands) new
   pub ending : end ≡ end_at (machine_with old limit commands)
 
-abbrev pub ProgramAnswers : List (ℕ × List ℕ) → ℕ → List Spoken → Seen → Seen → SinkMeaning → SinkMeaning → Result ProgramEnd Failed → Type 0
-ProgramAnswers labels limit commands old new out out' (Ok end) = RunsProgram labels limit commands old new out out' end
-ProgramAnswers labels limit commands old new out out' (Err e) = FailsWithin (program_written labels old limit commands) out out'
+abbrev pub ProgramAnswers : Origins → ℕ → List Spoken → Seen → Seen → SinkMeaning → SinkMeaning → Result ProgramEnd Failed → Type 0
+ProgramAnswers origins limit commands old new out out' (Ok end) = RunsProgram origins limit commands old new out out' end
+ProgramAnswers origins limit commands old new out out' (Err e) = FailsWithin (program_written origins old limit commands) out out'
 
 -- the pieces of one command went out whole, and the board is where it leaves it; or a put of them failed
 abbrev pub OneAnswers : ℕ → (Machine → List (List ℕ)) → (Machine → Machine) → Seen → Seen → SinkMeaning → SinkMeaning → Result (Unit {0}) Failed → Type 0

@@ -12,7 +12,7 @@ ghost use Rattle.vip_debug.specs.BoardParts.{Fits, lines_by};
 use crate::bytes::{Layout, put_instructions, put_mem, put_rows};
 use crate::moves::Change;
 use crate::registers::{put_cycle, put_regs};
-use asm_core::Labels;
+use asm_core::Origins;
 use vip_board::Board;
 use vip_byte::{Buffer, put};
 use vip_outside::{Failed, Sink};
@@ -68,21 +68,21 @@ pub fn put_echo<O: Sink>(entry: &SpokenCommand, out: &mut O) -> Result<(), Faile
 /// Puts what a command shows of a board, and in a listing these labels.
 pub fn put_showing<O: Sink>(
     board: &Board,
-    labels: &Labels,
+    origins: &Origins,
     showing: Showing,
     out: &mut O,
 ) -> Result<(), Failed>
-    ensures { StreamAnswers (shown labels.now board.now.rom board.now.machine showing) (O.meaning out.old) (O.meaning out.new) result }
+    ensures { StreamAnswers (shown origins.now board.now.rom board.now.machine showing) (O.meaning out.old) (O.meaning out.new) result }
 {
     let memory = board.memory();
     match showing {
         Showing::Regs => put_regs(board, out),
         Showing::Mem(address, count) => put_mem(memory, address, count, out),
         Showing::Dis(address, count) => {
-            put_instructions(memory, labels, address, count, Layout::Source, out)
+            put_instructions(memory, origins, address, count, Layout::Source, out)
         }
         Showing::List(address, count) => {
-            put_instructions(memory, labels, address, count, Layout::Listing, out)
+            put_instructions(memory, origins, address, count, Layout::Listing, out)
         }
     }
 }

@@ -8,12 +8,13 @@ ghost use Rattle.vip_byte.specs.HexText.{bytes_text, hex2};
 ghost use Rattle.vip_outside.specs.Sink.{PutAnswers};
 ghost use Rattle.vip_outside.specs.Pieces.{StreamAnswers};
 ghost use Rattle.std.specs.List.{flat_map};
+ghost use Rattle.asm_core.specs.Origins.{labels_read};
 ghost use Rattle.asm_listing.specs.Listing.{first_digits};
 ghost use Rattle.vip_debug.specs.BoardParts.{PutsLine, reads};
 ghost use Rattle.vip_debug.specs.BoardShown.{front_text, instruction_lines, labels_in, mem_lines, row, rows, stretch};
 
 use arrayvec::ArrayVec;
-use asm_core::Labels;
+use asm_core::{Origins, read_place};
 use asm_listing::one_line;
 use vip_byte::{Buffer, add16, hex2, hex4, put};
 use vip_memory::Memory;
@@ -131,30 +132,31 @@ fn put_before(into: &mut Buffer, layout: Layout, address: u16, bytes: &[u8])
     }
 }
 
-/// Puts the lines of the labels at an address, where a layout shows them.
+/// Puts the lines of the labels at the byte that an address reads, where a layout shows them.
 fn put_labels_in<O: Sink>(
-    labels: &Labels,
+    origins: &Origins,
+    latch: bool,
     layout: Layout,
     address: u16,
     out: &mut O,
 ) -> Result<(), Failed>
-    ensures { StreamAnswers (labels_in labels.now layout address) (O.meaning out.old) (O.meaning out.new) result }
+    ensures { StreamAnswers (labels_in (labels_read origins.now latch) layout address) (O.meaning out.old) (O.meaning out.new) result }
 {
     match layout {
         Layout::Source => Ok(()),
-        Layout::Listing => put_labels_at(labels, address, out),
+        Layout::Listing => put_labels_at(origins, read_place(latch, address), out),
     }
 }
 
 /// Puts the line of the instruction at an address, behind those of its labels, and answers how many bytes it shows.
 fn put_instruction<O: Sink>(
     memory: &Memory,
-    labels: &Labels,
+    origins: &Origins,
     address: u16,
     layout: Layout,
     out: &mut O,
 ) -> Result<u8, Failed>
-    ensures { PutsLine labels.now layout (reads memory.now) address (O.meaning out.old) (O.meaning out.new) result }
+    ensures { PutsLine (labels_read origins.now memory.now.latch) layout (reads memory.now) address (O.meaning out.old) (O.meaning out.new) result }
 {
     let three = [
         memory.read(address),
@@ -167,7 +169,7 @@ fn put_instruction<O: Sink>(
     let mut text = Buffer::new();
     put_before(&mut text, layout, address, &three[..usize::from(shown)]);
     put(&mut text, line.as_slice());
-    put_labels_in(labels, layout, address, out)?;
+    put_labels_in(origins, memory.latch_set(), layout, address, out)?;
     out.put(text.as_slice())?;
     Ok(shown)
 }
@@ -175,20 +177,20 @@ fn put_instruction<O: Sink>(
 /// Puts the lines of so many instructions from an address on, or those up to FFFF, in a listing behind those of their labels.
 pub fn put_instructions<O: Sink>(
     memory: &Memory,
-    labels: &Labels,
+    origins: &Origins,
     address: u16,
     count: u32,
     layout: Layout,
     out: &mut O,
 ) -> Result<(), Failed>
-    ensures { StreamAnswers (instruction_lines (reads memory.now) labels.now layout address count) (O.meaning out.old) (O.meaning out.new) result }
+    ensures { StreamAnswers (instruction_lines (reads memory.now) (labels_read origins.now memory.now.latch) layout address count) (O.meaning out.old) (O.meaning out.new) result }
 {
     let mut at = u32::from(address);
     for _line in 0..count {
         if at >= END {
             return Ok(());
         }
-        at += u32::from(put_instruction(memory, labels, at as u16, layout, out)?);
+        at += u32::from(put_instruction(memory, origins, at as u16, layout, out)?);
     }
     Ok(())
 }

@@ -5,11 +5,11 @@ ghost use Rattle.arrayvec.specs.ArrayVec.{array_vec_len};
 ghost use Rattle.vip_byte.specs.Room.{HasRoom};
 ghost use Rattle.machine.specs.Memory.{read};
 ghost use Rattle.vip_outside.specs.Pieces.{StreamAnswers};
-ghost use Rattle.asm_core.specs.Labels.{label_lines};
+ghost use Rattle.asm_core.specs.Origins.{labels_over};
 ghost use Rattle.vip_debug.specs.BoardParts.{clear_reads};
 ghost use Rattle.vip_debug.specs.Code.{byte_text, code_line, code_lines, code_text, opcode_text};
 
-use asm_core::Labels;
+use asm_core::Origins;
 use chip8_words::opcode_words;
 use vip_byte::{Buffer, hex2, hex4, put};
 use vip_memory::Memory;
@@ -69,34 +69,34 @@ fn put_code_at(into: &mut Buffer, memory: &Memory, address: u16)
 /// Puts the line of the opcode at an address, or of the last byte, behind those of its labels.
 fn put_line<O: Sink>(
     memory: &Memory,
-    labels: &Labels,
+    origins: &Origins,
     address: u16,
     out: &mut O,
 ) -> Result<(), Failed>
-    ensures { StreamAnswers (label_lines labels.now address ++ code_line (clear_reads memory.now) address ∷ []) (O.meaning out.old) (O.meaning out.new) result }
+    ensures { StreamAnswers (labels_over origins.now address ++ code_line (clear_reads memory.now) address ∷ []) (O.meaning out.old) (O.meaning out.new) result }
 {
     let mut text = Buffer::new();
     put(&mut text, &hex4(address));
     put(&mut text, b" ");
     put_code_at(&mut text, memory, address);
     put(&mut text, b"\n");
-    put_labels_at(labels, address, out)?;
+    put_labels_at(origins, address, out)?;
     out.put(text.as_slice())
 }
 
 /// Puts so many opcodes in words from an address on, or those up to FFFF, read as with the boot latch clear, each behind the lines of its labels.
 pub fn put_code<O: Sink>(
     memory: &Memory,
-    labels: &Labels,
+    origins: &Origins,
     address: u16,
     count: u32,
     out: &mut O,
 ) -> Result<(), Failed>
-    ensures { StreamAnswers (code_lines (clear_reads memory.now) labels.now address count) (O.meaning out.old) (O.meaning out.new) result }
+    ensures { StreamAnswers (code_lines (clear_reads memory.now) (labels_over origins.now) address count) (O.meaning out.old) (O.meaning out.new) result }
 {
     let most = (u32::from(LAST - address) + 2) / 2;
     for k in 0..count.min(most) {
-        put_line(memory, labels, (u32::from(address) + 2 * k) as u16, out)?;
+        put_line(memory, origins, (u32::from(address) + 2 * k) as u16, out)?;
     }
     Ok(())
 }

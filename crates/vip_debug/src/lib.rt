@@ -28,6 +28,7 @@ mod program;
 mod registers;
 mod run;
 mod show;
+mod sought;
 mod target;
 mod watched;
 

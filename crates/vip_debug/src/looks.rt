@@ -1,6 +1,6 @@
 //! How answers are shown.
 
-use asm_core::Labels;
+use asm_core::Origins;
 use vip_text::TraceColumns;
 
 /// How the answers of a machine that runs a game are shown.
@@ -8,6 +8,6 @@ use vip_text::TraceColumns;
 pub struct Looks {
     /// What the lines of dispatch points have besides the states; `state` has their time always.
     pub columns: TraceColumns,
-    /// The labels, which stand before what is shown of their addresses.
-    pub labels: Labels,
+    /// What the source gave, whose labels stand before what is shown of their bytes.
+    pub origins: Origins,
 }

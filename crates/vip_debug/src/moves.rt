@@ -7,9 +7,10 @@ ghost use Rattle.vip_debug.specs.Commands.{after_steps, at_address, at_change, a
 ghost use Rattle.vip_debug.specs.BoardParts.{Arrives, HasMoved, IsChange, IsShown};
 
 use crate::bytes::{Stretch, read_stretch};
+use crate::sought::Sought;
 use crate::target::Target;
 use crate::watched::Watched;
-use vip_board::{Board, Moved};
+use vip_board::{Board, Moved, Stops};
 use vip_byte::Buffer;
 use vip_program::{move_text, next_place};
 use vip_text::Limit;
@@ -68,16 +69,17 @@ fn move_to_cycle<T: Target>(target: &mut T, cycle: u64, limit: Limit)
     while target.move_on(last, ()) > 0 {}
 }
 
-/// Whether the next move is the instruction at an address. The board is at a boundary.
+/// Whether the next move is the instruction at an address, or one that is read from it. The board is at a boundary.
 fn starts_at(board: &Board, address: u16) -> bool
     requires { board.now.phase ≡ Phase.Boundary }
     ensures { result ≡ starts_at address board.now.machine }
 {
     let cpu = board.cpu();
-    board.next_is_instruction() && cpu.r(cpu.p()) == address
+    let sought = Sought { address };
+    board.next_is_instruction() && sought.has(cpu, board.memory(), cpu.r(cpu.p()))
 }
 
-/// Makes at least one move, and moves until the next one is the instruction at an address, up to the limit and the end of the run. Answers
+/// Makes at least one move, and moves until the next one is the instruction at an address, or one that is read from it, up to the limit and the end of the run. Answers
 /// whether it came there.
 fn move_to_address<T: Target>(target: &mut T, address: u16, limit: Limit) -> bool
     requires boundary { (T.seen target.old).phase ≡ Phase.Boundary }
@@ -85,7 +87,7 @@ fn move_to_address<T: Target>(target: &mut T, address: u16, limit: Limit) -> boo
     ensures comes { let r = run_from (T.ends target.old) (T.seen target.old) in Arrives limit r (at_address r limit address) (T.seen target.new) result }
     ensures moved { let r = run_from (T.ends target.old) (T.seen target.old) in HasMoved T.leads (at_address r limit address).moves target.old target.new }
 {
-    while target.move_on(limit, address) > 0 {
+    while target.move_on(limit, Sought { address }) > 0 {
         if starts_at(target.board(), address) {
             return true;
         }
@@ -93,7 +95,7 @@ fn move_to_address<T: Target>(target: &mut T, address: u16, limit: Limit) -> boo
     false
 }
 
-/// What a change of memory is shown by: the line of the move that made it, with the address of its instruction, if it is one, and the bytes that
+/// What a change of memory is shown by: the line of the move that made it, with the address from which its opcode was read, if it is an instruction, and the bytes that
 /// are watched, before and after.
 #[derive(Drop)]
 pub struct Change {

@@ -15,7 +15,7 @@ ghost use Rattle.vip_debug.specs.ProgramLaws.{ProgramLeads, program-leads-on};
 use crate::answer::{put_completed, put_echo, put_showing};
 use crate::moves::{Change, go};
 use crate::target::Target;
-use asm_core::Labels;
+use asm_core::Origins;
 use vip_board::{Board, Moved, Stops};
 use vip_byte::Buffer;
 use vip_outside::{Failed, Sink};
@@ -92,33 +92,33 @@ fn put_end<O: Sink>(board: &Board, completed: bool, out: &mut O) -> Result<(), F
 /// Makes so many moves and puts their lines.
 fn put_steps<O: Sink>(
     board: &mut Board,
-    labels: &Labels,
+    origins: &Origins,
     count: u32,
     limit: Limit,
     out: &mut O,
 ) -> Result<(), Failed>
     requires boundary { board.old.phase ≡ Phase.Boundary }
     requires within { board.old.machine.cycle ≤ limit }
-    ensures { let s = board.old in OneAnswers limit (ran_lines s.rom s.script limit labels.now (Running.Step count)) (comes_to s.rom s.script limit (Running.Step count)) s board.new (O.meaning out.old) (O.meaning out.new) result }
+    ensures { let s = board.old in OneAnswers limit (ran_lines s.rom s.script limit origins.now (Running.Step count)) (comes_to s.rom s.script limit (Running.Step count)) s board.new (O.meaning out.old) (O.meaning out.new) result }
 {
-    let made = trace_moves(board, labels, u64::from(count), limit, out)?;
+    let made = trace_moves(board, origins, u64::from(count), limit, out)?;
     put_end(board, made == u64::from(count), out)
 }
 
 /// Puts the lines of a command that ran a board and is completed, that of an instruction behind those of its labels.
 fn put_gone<O: Sink>(
     board: &Board,
-    labels: &Labels,
+    origins: &Origins,
     running: Running,
     change: &Change,
     out: &mut O,
 ) -> Result<(), Failed>
     requires { Fits running change.now }
-    ensures { StreamAnswers (labels_by labels.now running change.now ++ lines_by running board.now change.now) (O.meaning out.old) (O.meaning out.new) result }
+    ensures { StreamAnswers (labels_by origins.now running change.now ++ lines_by running board.now change.now) (O.meaning out.old) (O.meaning out.new) result }
 {
     match running {
         Running::Watch(_, _) => {
-            put_labels(labels, change.place, out)?;
+            put_labels(origins, change.place, out)?;
             put_completed(board, running, change, out)
         }
         _ => put_completed(board, running, change, out),
@@ -128,20 +128,20 @@ fn put_gone<O: Sink>(
 /// Runs a board as a command says other than by steps, and puts what it writes.
 fn put_going<O: Sink>(
     board: &mut Board,
-    labels: &Labels,
+    origins: &Origins,
     running: Running,
     limit: Limit,
     out: &mut O,
 ) -> Result<(), Failed>
     requires boundary { board.old.phase ≡ Phase.Boundary }
     requires within { board.old.machine.cycle ≤ limit }
-    ensures { let s = board.old in OneAnswers limit (gone_lines s.rom s.script limit labels.now running) (comes_to s.rom s.script limit running) s board.new (O.meaning out.old) (O.meaning out.new) result }
+    ensures { let s = board.old in OneAnswers limit (gone_lines s.rom s.script limit origins.now running) (comes_to s.rom s.script limit running) s board.new (O.meaning out.old) (O.meaning out.new) result }
 {
     let mut change = Change::new();
     let completed = run_program(board, running, limit, &mut change);
     match ending(board) {
         ProgramEnd::Idle(address) => put_idle(address, out),
-        ProgramEnd::AtLimit if completed => put_gone(board, labels, running, &change, out),
+        ProgramEnd::AtLimit if completed => put_gone(board, origins, running, &change, out),
         ProgramEnd::AtLimit => out.put(b"end\n"),
     }
 }
@@ -149,36 +149,36 @@ fn put_going<O: Sink>(
 /// Runs a board as a command says, and puts what it writes.
 fn put_running<O: Sink>(
     board: &mut Board,
-    labels: &Labels,
+    origins: &Origins,
     running: Running,
     limit: Limit,
     out: &mut O,
 ) -> Result<(), Failed>
     requires boundary { board.old.phase ≡ Phase.Boundary }
     requires within { board.old.machine.cycle ≤ limit }
-    ensures { let s = board.old in OneAnswers limit (ran_lines s.rom s.script limit labels.now running) (comes_to s.rom s.script limit running) s board.new (O.meaning out.old) (O.meaning out.new) result }
+    ensures { let s = board.old in OneAnswers limit (ran_lines s.rom s.script limit origins.now running) (comes_to s.rom s.script limit running) s board.new (O.meaning out.old) (O.meaning out.new) result }
 {
     match running {
-        Running::Step(count) => put_steps(board, labels, count, limit, out),
-        _ => put_going(board, labels, running, limit, out),
+        Running::Step(count) => put_steps(board, origins, count, limit, out),
+        _ => put_going(board, origins, running, limit, out),
     }
 }
 
 /// Runs one command. One that speaks of the language does nothing.
 fn run_command<O: Sink>(
     board: &mut Board,
-    labels: &Labels,
+    origins: &Origins,
     command: Command,
     limit: Limit,
     out: &mut O,
 ) -> Result<(), Failed>
     requires boundary { board.old.phase ≡ Phase.Boundary }
     requires within { board.old.machine.cycle ≤ limit }
-    ensures { let s = board.old in OneAnswers limit (program_pieces s.rom s.script limit labels.now command) (machine_after s.rom s.script limit command) s board.new (O.meaning out.old) (O.meaning out.new) result }
+    ensures { let s = board.old in OneAnswers limit (program_pieces s.rom s.script limit origins.now command) (machine_after s.rom s.script limit command) s board.new (O.meaning out.old) (O.meaning out.new) result }
 {
     match command {
-        Command::Runs(running) => put_running(board, labels, running, limit, out),
-        Command::Shows(showing) => put_showing(board, labels, showing, out),
+        Command::Runs(running) => put_running(board, origins, running, limit, out),
+        Command::Shows(showing) => put_showing(board, origins, showing, out),
         Command::Seeks(_) | Command::Tells(_) => Ok(()),
     }
 }
@@ -192,17 +192,17 @@ fn run_command<O: Sink>(
 pub fn run_program_commands<O: Sink>(
     board: &mut Board,
     commands: &Commands,
-    labels: &Labels,
+    origins: &Origins,
     limit: Limit,
     out: &mut O,
 ) -> Result<ProgramEnd, Failed>
     requires boundary { board.old.phase ≡ Phase.Boundary }
     requires within { board.old.machine.cycle ≤ limit }
-    ensures { ProgramAnswers labels.now limit commands.now board.old board.new (O.meaning out.old) (O.meaning out.new) result }
+    ensures { ProgramAnswers origins.now limit commands.now board.old board.new (O.meaning out.old) (O.meaning out.new) result }
 {
     for entry in commands.as_slice() {
         put_echo(entry, out)?;
-        run_command(board, labels, entry.command(), limit, out)?;
+        run_command(board, origins, entry.command(), limit, out)?;
     }
     Ok(ending(board))
 }

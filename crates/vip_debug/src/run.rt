@@ -115,7 +115,7 @@ fn put_telling<O: Sink>(
         Telling::Screen => put_screen(vip, out),
         Telling::Code(address, count) => put_code(
             vip.board().memory(),
-            &looks.labels,
+            &looks.origins,
             address,
             count,
             out,
@@ -139,7 +139,7 @@ fn run_command<O: Sink>(
 {
     match command {
         Command::Runs(running) => put_running(vip, running, limit, out),
-        Command::Shows(showing) => put_showing(vip.board(), &looks.labels, showing, out),
+        Command::Shows(showing) => put_showing(vip.board(), &looks.origins, showing, out),
         Command::Seeks(seeking) => put_seeking(vip, looks, seeking, limit, out),
         Command::Tells(telling) => put_telling(vip, looks, telling, out),
     }

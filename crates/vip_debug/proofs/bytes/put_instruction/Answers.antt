@@ -2,6 +2,7 @@ use Rattle.std.proofs.Common.{◌≡◌, ◌<◌, ◌-◌, ◌∙◌, ◌∷◌,
 use Rattle.vip_outside.specs.Sink.{PutsWhole, PutFails}
 use Rattle.vip_outside.proofs.PiecesLemmas.{PutsAll-snoc, FailsWithin-more, FailsWithin-snoc}
 use Rattle.vip_debug.specs.BoardShown.{bytes_from, labels_in, line_in}
+use Rattle.asm_core.specs.Origins.{labels_read}
 use Rattle.vip_debug.specs.BoardParts.{reads}
 use Rattle.vip_debug.proofs.Disassembling.{line-read, line-joined, taken-read, line-fails, taken-few}
 use Rattle.vip_debug.proofs.bytes.put_instruction.Goals as goal
@@ -20,9 +21,9 @@ slice_bounds-put_before-end g c =
 pub returns-in_err-put_labels_in : goal.returns-in_err-put_labels_in
 returns-in_err-put_labels_in g c =
     let bytes = bytes_from (reads c.args.memory.now) c.args.address (0x10000 - c.args.address) in
-    line-fails c.args.labels.now c.args.layout (reads c.args.memory.now) c.args.address _ _ _ c.from_residual.ensures.0
-    (FailsWithin-more (labels_in c.args.labels.now c.args.layout c.args.address) (line_in c.args.layout c.args.address bytes ∷ []) _ _
-    c.in_err-put_labels_in.ensures)
+    line-fails (labels_read c.args.origins.now c.args.memory.now.latch) c.args.layout (reads c.args.memory.now) c.args.address _ _ _ c.from_residual.ensures.0
+    (FailsWithin-more (labels_in (labels_read c.args.origins.now c.args.memory.now.latch) c.args.layout c.args.address) (line_in c.args.layout c.args.address bytes ∷ []) _ _
+    (rw c.latch_set.ensures at c.in_err-put_labels_in.ensures))
 
 pub returns-in_err-put : goal.returns-in_err-put
 returns-in_err-put g c =
@@ -33,8 +34,8 @@ returns-in_err-put g c =
     let line = line-read (reads c.args.memory.now) c.args.address c.min-have.result _ _ _ low size c.read.ensures second third c.args.layout in
     let piece = line-joined c.args.layout c.args.address _ _ _ _ _ _ _ _ c.new-text.ensures c.put_before.ensures.items c.put.ensures.items
     c.as_slice-2.ensures.value (c.as_slice.ensures.value ∙ c.one_line-shown.ensures.line) (c.from-2.ensures ∙ c.one_line-shown.ensures.taken) in
-    line-fails c.args.labels.now c.args.layout (reads c.args.memory.now) c.args.address _ _ _ c.from_residual-in_err-put.ensures.0
-    (FailsWithin-snoc (labels_in c.args.labels.now c.args.layout c.args.address) _ [] _ _ _ c.in_ok-put_labels_in.ensures
+    line-fails (labels_read c.args.origins.now c.args.memory.now.latch) c.args.layout (reads c.args.memory.now) c.args.address _ _ _ c.from_residual-in_err-put.ensures.0
+    (FailsWithin-snoc (labels_in (labels_read c.args.origins.now c.args.memory.now.latch) c.args.layout c.args.address) _ [] _ _ _ (rw c.latch_set.ensures at c.in_ok-put_labels_in.ensures)
     (subst (λ bytes. PutFails bytes (g.O.Sink.meaning c.put_labels_in.new.out) (g.O.Sink.meaning c.put-2.new.self)) (piece ∙ line) c.in_err-put.ensures.answer))
 
 pub returns : goal.returns
@@ -47,7 +48,7 @@ returns g c =
     let shown = taken-read (reads c.args.memory.now) c.args.address c.min-have.result _ _ _ low size c.read.ensures second third in
     let piece = line-joined c.args.layout c.args.address _ _ _ _ _ _ _ _ c.new-text.ensures c.put_before.ensures.items c.put.ensures.items
     c.as_slice-2.ensures.value (c.as_slice.ensures.value ∙ c.one_line-shown.ensures.line) (c.from-2.ensures ∙ c.one_line-shown.ensures.taken) in (
-      PutsAll-snoc (labels_in c.args.labels.now c.args.layout c.args.address) _ _ _ _ c.in_ok-put_labels_in.ensures
+      PutsAll-snoc (labels_in (labels_read c.args.origins.now c.args.memory.now.latch) c.args.layout c.args.address) _ _ _ _ (rw c.latch_set.ensures at c.in_ok-put_labels_in.ensures)
           (subst (λ bytes. PutsWhole bytes (g.O.Sink.meaning c.put_labels_in.new.out) (g.O.Sink.meaning c.put-2.new.self)) (piece ∙ line) c.in_ok-put.ensures.answer),
       c.one_line-shown.ensures.taken ∙ shown,
     )

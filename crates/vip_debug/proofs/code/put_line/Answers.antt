@@ -3,7 +3,7 @@ use Rattle.std.specs.Prelude.{codes}
 use Rattle.vip_byte.specs.HexText.{hex4}
 use Rattle.vip_byte.specs.Text.{newline}
 use Rattle.vip_outside.proofs.PiecesLemmas.{FailsWithin-more, StreamAnswers-append, StreamAnswers-err, StreamAnswers-one}
-use Rattle.asm_core.specs.Labels.{label_lines}
+use Rattle.asm_core.specs.Origins.{labels_over}
 use Rattle.vip_debug.specs.BoardParts.{clear_reads}
 use Rattle.vip_debug.specs.Code.{code_line, code_text}
 use Rattle.vip_debug.proofs.code.put_line.Goals as goal
@@ -11,7 +11,7 @@ use Rattle.vip_debug.proofs.code.put_line.Goals as goal
 pub returns-in_err-put_labels_at : goal.returns-in_err-put_labels_at
 returns-in_err-put_labels_at g c =
     StreamAnswers-err _ _ _ _ c.from_residual.ensures.0
-    (FailsWithin-more (label_lines c.args.labels.now c.args.address) (code_line (clear_reads c.args.memory.now) c.args.address ∷ []) _ _
+    (FailsWithin-more (labels_over c.args.origins.now c.args.address) (code_line (clear_reads c.args.memory.now) c.args.address ∷ []) _ _
     c.in_err-put_labels_at.ensures)
 
 pub returns : goal.returns
@@ -27,5 +27,5 @@ returns g c =
       c.hex4.ensures,
       c.new-text.ensures,
     ) refl in
-    StreamAnswers-append (label_lines c.args.labels.now c.args.address) _ _ _ _ _ c.in_ok-put_labels_at.ensures
+    StreamAnswers-append (labels_over c.args.origins.now c.args.address) _ _ _ _ _ c.in_ok-put_labels_at.ensures
     (StreamAnswers-one _ _ _ _ (rw text at c.put-4.ensures.answer))

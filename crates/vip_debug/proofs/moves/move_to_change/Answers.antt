@@ -3,7 +3,7 @@ use Rattle.std.proofs.lemmas.Bool.{cases_lt}
 use Rattle.vip_byte.specs.declared.number.TheConstants.{MOST_CYCLE}
 use Rattle.vip_board.specs.Seen.{Seen, contents_of, held_by}
 use Rattle.vip_board.specs.Moves.{moved_by, StartsInstruction}
-use Rattle.machine.specs.Board.{length_of}
+use Rattle.machine.specs.Board.{case_of, length_of}
 use Rattle.machine.specs.Keys.{held_at}
 use Rattle.machine.proofs.Runs.{cycle-move, later-move}
 use Rattle.vip_debug.specs.TargetRun.{run_from, state_of}
@@ -11,8 +11,8 @@ use Rattle.vip_debug.specs.BoardShown.{stretch, has_changed}
 use Rattle.vip_debug.specs.Commands.{bytes_at}
 use Rattle.vip_debug.specs.Watching.{may_change}
 use Rattle.vip_debug.specs.declared.watched.Watched.{Watched}
-use Rattle.vip_program.specs.Lines.{labels_before, line_of}
-use Rattle.vip_debug.proofs.TargetMoving.{labels-here, gone-first, gone-smaller, one-move, some-moves, seeking-first, seeking-next, gone-on, same-between, same-now, finds, finds-moved, finds-at, finds-none, none-moved, stretch-here, line-here}
+use Rattle.vip_program.specs.Lines.{line_of, place_in}
+use Rattle.vip_debug.proofs.TargetMoving.{place-here, gone-first, gone-smaller, one-move, some-moves, seeking-first, seeking-next, gone-on, same-between, same-now, finds, finds-moved, finds-at, finds-none, none-moved, stretch-here, line-here}
 use Rattle.vip_debug.proofs.moves.move_to_change.Goals as goal
 
 not_both : {x : Bool} → x ≡ true → x ≡ false → ⊥
@@ -169,10 +169,10 @@ returns-then-ne-clause-shown g c =
       line = c.move_text.ensures.line ∙ line ∙ ap (λ k. line_of r.rom (held_at r.script) (state_of r k ∷ [])) last;
       before = c.loop-limit.invariant.before;
       after = c.read_stretch-in-loop-limit.ensures ∙ after ∙ ap (λ k. stretch (bytes_at r k) c.args.address c.args.count) (sym at);
-      place = λ labels.
-          ap (λ k. labels_before labels (state_of r k)) (sym last)
-          ∙ sym (labels-here r _ inv.gone.going.stands refl _ c.board-in-loop-limit-3.ensures labels)
-          ∙ c.next_place-change.ensures labels;
+      place =
+          c.next_place-change.ensures
+          ∙ place-here r _ inv.gone.going.stands refl _ c.board-in-loop-limit-3.ensures
+          ∙ ap (λ k. place_in (case_of (state_of r k)) (state_of r k)) last;
     }
 
 pub loop-limit-smaller : goal.loop-limit-smaller

@@ -19,10 +19,10 @@ returns-in-Idle g c =
     let r = run_from sleeps s in
     let to = came r c.args.limit c.args.running in
     let a = c.run_program-completed.ensures.comes in
-    let lines = changing s.rom s.script c.args.limit c.args.labels.now c.args.running s.machine ++ completed_lines r c.args.running to.moves in
+    let lines = changing s.rom s.script c.args.limit c.args.origins.now c.args.running s.machine ++ completed_lines r c.args.running to.moves in
     let there : c.run_program-completed.new.board.machine ≡ state_of r to.moves = a.machine in
     let same = ap₂ (λ b done. ended_lines b done lines) there a.completed in
-    one-answers c.args.limit (gone_lines s.rom s.script c.args.limit c.args.labels.now c.args.running) (comes_to s.rom s.script c.args.limit c.args.running) s
+    one-answers c.args.limit (gone_lines s.rom s.script c.args.limit c.args.origins.now c.args.running) (comes_to s.rom s.script c.args.limit c.args.running) s
     c.run_program-completed.new.board _ _ c.put_idle.result
     (subst (λ ps. StreamAnswers ps (g.O.Sink.meaning c.args.out.now) (g.O.Sink.meaning c.put_idle.new.out) c.put_idle.result)
     (ended-idle c.run_program-completed.new.board.machine c.run_program-completed.result lines _ (sym c.in-Idle.is ∙ c.ending.ensures) ∙ same)
@@ -35,14 +35,14 @@ returns-in-AtLimit g c =
     let r = run_from sleeps s in
     let to = came r c.args.limit c.args.running in
     let a = c.run_program-completed.ensures.comes in
-    let lines = changing s.rom s.script c.args.limit c.args.labels.now c.args.running s.machine ++ completed_lines r c.args.running to.moves in
+    let lines = changing s.rom s.script c.args.limit c.args.origins.now c.args.running s.machine ++ completed_lines r c.args.running to.moves in
     let there : c.run_program-completed.new.board.machine ≡ state_of r to.moves = a.machine in
     let same = ap₂ (λ b done. ended_lines b done lines) there a.completed in
-    one-answers c.args.limit (gone_lines s.rom s.script c.args.limit c.args.labels.now c.args.running) (comes_to s.rom s.script c.args.limit c.args.running) s
+    one-answers c.args.limit (gone_lines s.rom s.script c.args.limit c.args.origins.now c.args.running) (comes_to s.rom s.script c.args.limit c.args.running) s
     c.run_program-completed.new.board _ _ c.put_gone.result
     (subst (λ ps. StreamAnswers ps (g.O.Sink.meaning c.args.out.now) (g.O.Sink.meaning c.put_gone.new.out) c.put_gone.result)
     (ap₂ (λ first more. first ++ more)
-    (labels-completed c.args.labels.now s.rom s.script c.args.limit c.args.running s.machine _ (c.run_program-completed.ensures.shown c.if-completed.true))
+    (labels-completed c.args.origins.now s.rom s.script c.args.limit c.args.running s.machine _ (c.run_program-completed.ensures.shown c.if-completed.true))
     (lines-completed r c.args.limit to _ _ a c.args.running _ _ refl (c.run_program-completed.ensures.shown c.if-completed.true))
     ∙ ended-goes c.run_program-completed.new.board.machine c.run_program-completed.result lines (sym c.in-AtLimit.is ∙ c.ending.ensures) c.if-completed.true
     ∙ same) c.put_gone.ensures)
@@ -54,10 +54,10 @@ returns-in-AtLimit-2 g c =
     let r = run_from sleeps s in
     let to = came r c.args.limit c.args.running in
     let a = c.run_program-completed.ensures.comes in
-    let lines = changing s.rom s.script c.args.limit c.args.labels.now c.args.running s.machine ++ completed_lines r c.args.running to.moves in
+    let lines = changing s.rom s.script c.args.limit c.args.origins.now c.args.running s.machine ++ completed_lines r c.args.running to.moves in
     let there : c.run_program-completed.new.board.machine ≡ state_of r to.moves = a.machine in
     let same = ap₂ (λ b done. ended_lines b done lines) there a.completed in
-    one-answers c.args.limit (gone_lines s.rom s.script c.args.limit c.args.labels.now c.args.running) (comes_to s.rom s.script c.args.limit c.args.running) s
+    one-answers c.args.limit (gone_lines s.rom s.script c.args.limit c.args.origins.now c.args.running) (comes_to s.rom s.script c.args.limit c.args.running) s
     c.run_program-completed.new.board _ _ c.put.result
     (subst (λ ps. StreamAnswers ps (g.O.Sink.meaning c.args.out.now) (g.O.Sink.meaning c.put.new.self) c.put.result)
     (ended-early c.run_program-completed.new.board.machine c.run_program-completed.result lines (sym c.in-AtLimit.is ∙ c.ending.ensures) c.if-completed.false
