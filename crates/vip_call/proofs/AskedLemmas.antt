@@ -8,10 +8,10 @@ use Rattle.asm_lex.specs.declared.shape.Isa.{Isa}
 use Rattle.vip_byte.specs.Number.{are_digits, decimal_number, most_cycles, number}
 use Rattle.vip_byte.specs.declared.number.NumFault.{NumFault}
 use Rattle.vip_byte.specs.declared.number.NumFault.TheVariants.{Empty, BadDigit, TooLarge}
-use Rattle.vip_words.specs.Asked.{asked_by, asked_of_verb, bounds_by, built_in_by, cycles_of, debug_by, demo_by, dis_by, either_by, entry_of, file_by, help_by, is_mixed, is_program, link_by, moves_of, place_of, play_by, program_by, register_of, resume_by, run_by, safe_by, seed_of, shown_by, source_by, start_by, timing_by, trace_by, two_registers, version_by, within_by}
+use Rattle.vip_words.specs.Asked.{asked_behind, asked_by, asked_of_verb, bounds_by, built_in_by, cycles_of, debug_by, demo_by, digest_by, dis_by, either_by, entry_of, file_by, help_by, is_mixed, is_program, link_by, moves_of, place_of, play_by, profile_by, program_by, register_of, resume_by, run_by, safe_by, seed_of, shown_by, source_by, start_by, timing_by, trace_by, two_registers, version_by, why_of, within_by}
 use Rattle.vip_words.specs.Request.{Asked}
 use Rattle.vip_words.specs.Rules.{Given, Word, given_by}
-use Rattle.vip_words.specs.Table.{is_alone, places_of, row, verb_of}
+use Rattle.vip_words.specs.Table.{is_alone, is_why, places_of, row, verb_of}
 use Rattle.vip_words.specs.declared.request.Entry.{Entry}
 use Rattle.vip_words.specs.declared.request.ProgramShow.{ProgramShow}
 use Rattle.vip_words.specs.declared.request.Request.{Request}
@@ -93,6 +93,12 @@ play_limited [] given = tt
 play_limited (file ∷ []) given = tt
 play_limited (file ∷ cycles ∷ more ∷ words) given = tt
 
+profile_limited : (words : List Word) (given : Given) → Limited (profile_by words given)
+profile_limited (file ∷ cycles ∷ []) given = either_limited file cycles given _ _
+profile_limited [] given = tt
+profile_limited (file ∷ []) given = tt
+profile_limited (file ∷ cycles ∷ more ∷ words) given = tt
+
 debug_limited : (words : List Word) (given : Given) → Limited (debug_by words given)
 debug_limited (file ∷ cycles ∷ commands ∷ []) given = either_limited file cycles given _ _
 debug_limited [] given = tt
@@ -117,6 +123,12 @@ demo_limited (number ∷ cycles ∷ []) = behind _ (seed_of number) (λ n. of_cy
 demo_limited [] = tt
 demo_limited (number ∷ []) = tt
 demo_limited (number ∷ cycles ∷ more ∷ words) = tt
+
+digest_limited : (words : List Word) → Limited (digest_by words)
+digest_limited (file ∷ cycles ∷ []) = of_each _ (cycles_of cycles) (λ n. tt)
+digest_limited [] = tt
+digest_limited (file ∷ []) = tt
+digest_limited (file ∷ cycles ∷ more ∷ words) = tt
 
 link_limited : (words : List Word) → Limited (link_by words)
 link_limited (file ∷ moves ∷ number ∷ []) = behind _ (moves_of moves) (λ m. of_each _ (seed_of number) (λ n. tt))
@@ -177,9 +189,10 @@ verb_limited verb.Trace given = trace_limited given.positional given
 verb_limited verb.Play given = play_limited given.positional given
 verb_limited verb.Debug given = debug_limited given.positional given
 verb_limited verb.Save given = shown_limited _ given.positional given
-verb_limited verb.Profile given = shown_limited _ given.positional given
+verb_limited verb.Profile given = profile_limited given.positional given
 verb_limited verb.Resume given = resume_limited given.positional given
 verb_limited verb.Demo given = demo_limited given.positional
+verb_limited verb.Digest given = digest_limited given.positional
 verb_limited verb.Link given = link_limited given.positional
 verb_limited verb.Asm given = of_each _ (file_by given.positional) (λ file. tt)
 verb_limited verb.Check given = of_each _ (file_by given.positional) (λ file. tt)
@@ -193,12 +206,18 @@ verb_limited verb.Safe given = safe_limited given.positional given
 verb_limited verb.Certify given = of_each _ (file_by given.positional) (λ game. tt)
 verb_limited verb.Help given = help_limited given.positional
 verb_limited verb.Version given = version_limited given.positional
+verb_limited verb.Why given = tt
 
 -- ---- the words
 
+behind_limited : (words : List Word) (v : Verb) → Limited (asked_behind words v)
+behind_limited words v =
+    either (is_why v) (Some (why_of words)) _ tt
+    (behind _ (given_by (places_of (row v) (is_alone words)) (row v).options words) (verb_limited v))
+
 all_limited : (words : List Word) → Limited (asked_by words)
 all_limited [] = tt
-all_limited (word ∷ words) = behind _ (verb_of word) (λ v. behind _ (given_by (places_of (row v) (is_alone words)) (row v).options words) (verb_limited v))
+all_limited (word ∷ words) = behind _ (verb_of word) (behind_limited words)
 
 pub asked_limited : (words : List Word) (asked : Asked) → asked_by words ≡ Some asked → IsLimited (shape_of asked)
 asked_limited words asked is = subst Limited is (all_limited words)

@@ -95,7 +95,7 @@ module _ (routines : AcceptedIsWithin) (games : CertifiedGames) (law : EveryRun)
         address = at.value;
         entered = at.gives;
         found = found.gives.0;
-        leaves = routines _ found.value (record { entry = at.value; limit = found.gives.0.bound.limit }) comes.value.fits found.gives.0.accepted;
+        leaves = routines _ found.value (record { entry = at.value; limit = found.gives.0.certificate.bound.limit }) comes.value.fits found.gives.0.certificate.accepted;
       }
   shows (request.Safe code certificate edition) output given comes =
       let game = game_fits edition code given.0 comes.value comes.gives in

@@ -19,6 +19,7 @@ use Rattle.chip8_lang.specs.Places.{Interpreter, pixels, state_of}
 use Rattle.chip8_lang.specs.Screen.{empty, is_set}
 use Rattle.chip8_lang.specs.View.{view_at}
 use Rattle.rom_law.specs.Language.{end_cycle}
+use Rattle.asm_core.specs.Origins.{labels_over, no_origins}
 use Rattle.vip_byte.specs.Text.{newline}
 use Rattle.vip_relation.specs.Follows.{last_dispatch}
 use Rattle.chip8_image.specs.Interpreters.{interpreter_of}
@@ -419,14 +420,14 @@ module _
     code_shown :
         (address count : ℕ) (last : Option Machine) → last_dispatch (events_to v t) ≡ last
         → ShowsCode e looks limit points ending over address count (option_map (point_of e) last) t
-        (code_lines (clear_byte i.rom (at_state made)) looks.labels address count)
+        (code_lines (clear_byte i.rom (at_state made)) (labels_over looks.origins) address count)
     code_shown address count None is = tt
     code_shown address count (Some b) is = λ here from to.
         let among : Among b (dispatches events) =
         kept (λ c. nat_le c.cycle t) (dispatches events) b (length (dispatches (events_to v t)) - 1)
         (sym (ap (λ bs. slice_get bs (length (dispatches (events_to v t)) - 1)) (met_is e s script begins limit t behind_start order)) ∙ is) in
         let there : at_state made ≡ b = ap (λ c. at_state (moves_until v c)) (sym here) ∙ (found b among).there in
-        ap (λ c. code_lines (clear_byte i.rom c) looks.labels address count) there ∙ code_in_memory e i.rom b looks.labels address count from to
+        ap (λ c. code_lines (clear_byte i.rom c) (labels_over looks.origins) address count) there ∙ code_in_memory e i.rom b (labels_over looks.origins) address count from to
 
   -- ---- a command
 
@@ -709,5 +710,5 @@ module _ (e : Edition) (s : Start) (script : List KeyEvent) (begins : is_stop (i
       → state (interpreter_of e) s script (moves_until (begun e s script) t) ≡ b
   found_point late is here =
       ap (λ c. state (interpreter_of e) s script (moves_until (begun e s script) c)) (sym here)
-      ∙ (found e s script begins t late (state (interpreter_of e) s script (moves_until (begun e s script) t)).cycle (λ stop. refl) (record { columns = plain; labels = [] }) b
+      ∙ (found e s script begins t late (state (interpreter_of e) s script (moves_until (begun e s script) t)).cycle (λ stop. refl) (record { columns = plain; origins = no_origins }) b
       (last_among (dispatches (events_to (begun e s script) t)) is)).there

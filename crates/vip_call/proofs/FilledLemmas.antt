@@ -50,6 +50,7 @@ module _ {A B : Type 0} (f : A → B) where
   program_show_mosts : (s : ProgramShow A) → mosts (program_show_files (map_program_show f s)) ≡ mosts (program_show_files s)
   program_show_mosts program.Trace = refl
   program_show_mosts program.Pictures = refl
+  program_show_mosts program.Profile = refl
   program_show_mosts (program.Commands file echo) = refl
 
 both_mosts : {N : Type 0} (xs ys : List (Needed N)) → mosts (xs ++ ys) ≡ mosts xs ++ mosts ys
@@ -132,6 +133,7 @@ behind_show _ xs = xs
 abbrev fill_program_show : ProgramShow (Unit {0}) → List (List ℕ) → ProgramShow (List ℕ)
 fill_program_show program.Trace xs = program.Trace
 fill_program_show program.Pictures xs = program.Pictures
+fill_program_show program.Profile xs = program.Profile
 fill_program_show (program.Commands file echo) xs = program.Commands (first_file xs) echo
 
 abbrev behind_program_show : ProgramShow (Unit {0}) → List (List ℕ) → List (List ℕ)
@@ -196,12 +198,14 @@ program_show_filled : (s : ProgramShow (List ℕ)) (ns : List (Needed (List ℕ)
     → fill_program_show (map_program_show bare s) (files_of (program_show_files s ++ ns)) ≡ s
 program_show_filled program.Trace ns = refl
 program_show_filled program.Pictures ns = refl
+program_show_filled program.Profile ns = refl
 program_show_filled (program.Commands file echo) ns = refl
 
 program_show_left : (s : ProgramShow (List ℕ)) (ns : List (Needed (List ℕ)))
     → behind_program_show (map_program_show bare s) (files_of (program_show_files s ++ ns)) ≡ files_of ns
 program_show_left program.Trace ns = refl
 program_show_left program.Pictures ns = refl
+program_show_left program.Profile ns = refl
 program_show_left (program.Commands file echo) ns = refl
 
 keys_filled : (k : Option (List ℕ)) → fill_keys (option_map bare k) (files_of (script_files k)) ≡ k

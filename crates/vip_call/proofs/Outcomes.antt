@@ -1,5 +1,6 @@
 -- What a request comes to is one outcome; which statuses come, and who may give up. Each source gives its ROM, so no ROM is refused.
 use Rattle.std.proofs.Common.{◌≡◌, ◌≤◌, ℕ, Bool, List, [], ◌∷◌, ◌++◌, length, inl, inr, refl, sym, subst, ◌∙◌, arith, Option, Some, None, Ok, Err}
+use Rattle.std.specs.List.{flat_map}
 use Rattle.machine.specs.Keys.{Event as KeyEvent}
 use Rattle.chip8_lang.specs.State.{memory_size}
 use Rattle.chip8_lang.specs.declared.view.Edition.{Edition}
@@ -66,7 +67,8 @@ use Rattle.vip_tools.specs.Files.{Loaded, needed, script_files, show_files}
 use Rattle.vip_tools.specs.Judged.{Judged, bind, cause_of, each, judged, only}
 use Rattle.vip_tools.specs.Judged.Cause.{Fault}
 use Rattle.vip_tools.specs.Judged.Verdict.{Given, Refused, GivenUp}
-use Rattle.vip_tools.specs.Opening.{CommandsCome, ScriptComes, SourceComes, command_refusal, rom_refusal, script_refusal, source_refusal}
+use Rattle.vip_tools.specs.Games.{games_of}
+use Rattle.vip_tools.specs.Opening.{CommandsCome, GamesCome, ScriptComes, SourceComes, command_refusal, games_refusal, rom_refusal, script_refusal, source_refusal}
 use Rattle.vip_tools.specs.Outcome.{Ends, Outcome, Output, Shown, Writes, rom_text, script_in}
 use Rattle.vip_tools.specs.Sources.{IsBytes, TextOf}
 use Rattle.asm_listing.specs.Listing.{IsListing}
@@ -76,9 +78,9 @@ use Rattle.vip_tools.specs.declared.status.Status.{Status}
 use Rattle.vip_tools.specs.declared.status.Status.TheVariants.{BadSource, Done, NoCertificate, NoDispatch}
 use Rattle.vip_tools.proofs.CodeLemmas.{one_game}
 use Rattle.vip_tools.proofs.JudgedLemmas.{Agree, AgreeOn, AllSound, Any, IsFine, Sound, alone_agree, alone_sound, bind_agree, bind_sound, each_agree, each_sound, judged_agree, judged_sound, only_agree, result_agree, same_agree, search_agree}
-use Rattle.vip_verbs.specs.Outcome.{HasOutcome, IsSavedIn, LinkRomsCome, RomComes, RomIs, RunStart, RunTo, ShowComes, StartComes, TextVerbComes, events_in, known_in, linked, linked_after, pieces_of, ran_with, run_ending, saved_pieces, shown_by}
+use Rattle.vip_verbs.specs.Outcome.{HasOutcome, IsSavedIn, LinkRomsCome, RomComes, RomIs, RunStart, RunTo, ShowComes, StartComes, TextVerbComes, digest_line, events_in, known_in, linked, linked_after, pieces_of, ran_with, run_ending, saved_pieces, shown_by}
 use Rattle.vip_verbs.proofs.WorkLemmas.{rom-given}
-use Rattle.vip_verbs.specs.Programs.{ProgramComes, ProgramShowComes, memory_in, program_debugged, program_pictured, program_traced}
+use Rattle.vip_verbs.specs.Programs.{ProgramComes, ProgramShowComes, memory_in, program_debugged, program_pictured, program_profiled, program_traced}
 use Rattle.vip_call.specs.Top.{Call, DecidesCertify, IsCheck, IsOfRom, IsSearch}
 use Rattle.vip_call.specs.Transcribed.{LacksPoint, SavesNone}
 use Rattle.vip_call.proofs.FilledLemmas.{AreGiven}
@@ -195,6 +197,8 @@ text_verb_once : (verb : TextVerb) (file : List ℕ) → OneEnd (TextVerbComes v
 text_verb_once (text.Asm isa raw) source = text_once isa source (IsBytes isa raw)
 text_verb_once (text.List isa) source = text_once isa source (λ made text. IsListing isa (source_lines source) text)
 text_verb_once (text.Timing entry p k) source = timing_once source entry p k
+text_verb_once (text.Digest limit) list =
+    once_behind (GamesCome list) (λ games. Writes (flat_map (digest_line limit) games)) (result_agree (games_of list) games_refusal) (λ games. ends_once _)
 text_verb_once _ file = ends_once _
 
 safe_once : (e : Edition) (game text : List ℕ) → OneEnd (SafeComes e game text) (SafeComes e game text)
@@ -270,12 +274,13 @@ program_once memory rom ram keys outcome =
 
 program_show_once : (known : Known) (memory : Memory) (rom ram : List ℕ) (keys : Option (List ℕ)) (limit : ℕ) (shown : ProgramShow (List ℕ))
     → OneEnd (ProgramShowComes known memory rom ram keys limit shown) (ProgramShowComes known memory rom ram keys limit shown)
-program_show_once known memory rom ram keys limit program_show.Trace = program_once memory rom ram keys (program_traced known.labels limit)
+program_show_once known memory rom ram keys limit program_show.Trace = program_once memory rom ram keys (program_traced known.origins limit)
 program_show_once known memory rom ram keys limit program_show.Pictures = program_once memory rom ram keys (program_pictured limit)
+program_show_once known memory rom ram keys limit program_show.Profile = program_once memory rom ram keys (program_profiled limit)
 program_show_once known memory rom ram keys limit (program_show.Commands text echo) =
-    once_behind (CommandsCome Processor known.names echo limit text) (λ commands. ProgramComes memory rom ram keys (program_debugged known.labels commands limit))
+    once_behind (CommandsCome Processor known.names echo limit text) (λ commands. ProgramComes memory rom ram keys (program_debugged known.origins commands limit))
     (result_agree (commands_of Processor known.names echo limit text) command_refusal)
-    (λ commands. program_once memory rom ram keys (program_debugged known.labels commands limit))
+    (λ commands. program_once memory rom ram keys (program_debugged known.origins commands limit))
 
 -- ---- which statuses come
 
@@ -455,12 +460,13 @@ module _ (given : RomsGiven) where
 
     program_show_free : (known : Known) (memory : Memory) (rom ram : List ℕ) (keys : Option (List ℕ)) (limit : ℕ) (shown : ProgramShow (List ℕ))
         → Free loaded (ProgramShowComes known memory rom ram keys limit shown)
-    program_show_free known memory rom ram keys limit program_show.Trace = program_free memory rom ram keys (program_traced known.labels limit) (λ board bad. absurd (cc))
+    program_show_free known memory rom ram keys limit program_show.Trace = program_free memory rom ram keys (program_traced known.origins limit) (λ board bad. absurd (cc))
     program_show_free known memory rom ram keys limit program_show.Pictures = program_free memory rom ram keys (program_pictured limit) (λ board bad. absurd (cc))
+    program_show_free known memory rom ram keys limit program_show.Profile = program_free memory rom ram keys (program_profiled limit) (λ board bad. absurd (cc))
     program_show_free known memory rom ram keys limit (program_show.Commands text echo) =
-        free_behind (CommandsCome Processor known.names echo limit text) (λ commands. ProgramComes memory rom ram keys (program_debugged known.labels commands limit))
+        free_behind (CommandsCome Processor known.names echo limit text) (λ commands. ProgramComes memory rom ram keys (program_debugged known.origins commands limit))
         (part _ _ command_refusal (λ f x. command_fine f))
-        (λ commands. program_free memory rom ram keys (program_debugged known.labels commands limit) (λ board bad. absurd (cc)))
+        (λ commands. program_free memory rom ram keys (program_debugged known.origins commands limit) (λ board bad. absurd (cc)))
 
   text_verb_free : (verb : TextVerb) (file : List ℕ) → Free (request.Text verb file) (TextVerbComes verb file)
   text_verb_free (text.Asm isa raw) source = text_free (request.Text (text.Asm isa raw) source) isa source (IsBytes isa raw)
@@ -468,6 +474,9 @@ module _ (given : RomsGiven) where
   text_verb_free (text.List isa) source =
       text_free (request.Text (text.List isa) source) isa source (λ made text. IsListing isa (source_lines source) text)
   text_verb_free (text.Dis place) bytes = writes_free (request.Text (text.Dis place) bytes) _
+  text_verb_free (text.Digest limit) list =
+      let l = request.Text (text.Digest limit) list in
+      free_behind l (GamesCome list) _ (part l _ _ games_refusal (λ f x. (λ y. y, λ is. absurd (cc)))) (λ games. writes_free l _)
   text_verb_free (text.Timing entry p k) source =
       let l = request.Text (text.Timing entry p k) source in
       free_behind l (SourceRom source) _ (assembled_free l source)

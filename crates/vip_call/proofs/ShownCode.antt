@@ -11,7 +11,6 @@ use Rattle.chip8_lang.specs.declared.view.Edition.TheVariants.{Usual, Tall}
 use Rattle.chip8_lang.specs.Editions.{memory_end}
 use Rattle.chip8_lang.specs.Places.{state_of}
 use Rattle.chip8_lang.specs.State.{memory_byte}
-use Rattle.asm_core.specs.Labels.{label_lines}
 use Rattle.vip_byte.specs.HexText.{hex4}
 use Rattle.vip_byte.specs.Text.{newline}
 use Rattle.vip_debug.specs.Code.{byte_text, clear_byte, code_line, code_lines, code_pieces, opcode_text}
@@ -45,7 +44,7 @@ same_pieces f g a (suc n) same =
     (same_pieces f g (a + 1) n (λ k from to. same k (omega (arith, from)) (omega (arith, to))))
 
 -- lines of the same bytes are the same
-module _ (f g : ℕ → ℕ) (labels : List (ℕ × List ℕ)) (address count : ℕ)
+module _ (f g : ℕ → ℕ) (labels : ℕ → List (List ℕ)) (address count : ℕ)
     (same : (a : ℕ) → address ≤ a → a < address + 2 * count → f a ≡ g a) where
   same_line : (k : ℕ) → k < count → code_line f (address + 2 * k) ≡ code_line g (address + 2 * k)
   unfolding code_line
@@ -58,10 +57,10 @@ module _ (f g : ℕ → ℕ) (labels : List (ℕ × List ℕ)) (address count : 
   same_lines : code_lines f labels address count ≡ code_lines g labels address count
   same_lines =
       same_pieces (code_pieces f labels address) (code_pieces g labels address) 0 (min count ((0x10001 - address) / 2))
-      (λ k from to. ap (λ line. label_lines labels (address + 2 * k) ++ line ∷ []) (same_line k (omega (arith, to))))
+      (λ k from to. ap (λ line. labels (address + 2 * k) ++ line ∷ []) (same_line k (omega (arith, to))))
 
 pub code_in_memory :
-    (e : Edition) (rom : List ℕ) (b : Machine) (labels : List (ℕ × List ℕ)) (address count : ℕ) → 0x200 ≤ address → address + 2 * count ≤ memory_end e
+    (e : Edition) (rom : List ℕ) (b : Machine) (labels : ℕ → List (List ℕ)) (address count : ℕ) → 0x200 ≤ address → address + 2 * count ≤ memory_end e
     → code_lines (clear_byte rom b) labels address count ≡ code_lines (memory_byte (state_of e b)) labels address count
 code_in_memory e rom b labels address count from to =
     same_lines (clear_byte rom b) (memory_byte (state_of e b)) labels address count

@@ -39,7 +39,7 @@ use Rattle.vip_tools.specs.declared.refusal.Kind.TheVariants as kind
 use Rattle.vip_tools.specs.declared.refusal.Refusal.{Refusal}
 use Rattle.vip_tools.specs.declared.refusal.Refusal.TheVariants as refusal
 use Rattle.vip_tools.specs.declared.status.Status.{Status}
-use Rattle.vip_tools.specs.declared.status.Status.TheVariants.{BadRomSource, Done, RomDiffers, Stopped, Usage, ReadFault, GameTooLarge, ScriptTooLarge, BadSource, WriteFault, NoMemory, SourceTooLarge, CommandsTooLarge, BadState, NoDispatch, MessageTooLarge, CertificateTooLarge, NoCertificate, RomTooLarge, RamTooLarge}
+use Rattle.vip_tools.specs.declared.status.Status.TheVariants.{BadRomSource, Done, RomDiffers, Stopped, Usage, ReadFault, GameTooLarge, ScriptTooLarge, BadSource, WriteFault, NoMemory, SourceTooLarge, CommandsTooLarge, BadState, NoDispatch, MessageTooLarge, CertificateTooLarge, NoCertificate, RomTooLarge, RamTooLarge, GamesTooLarge}
 
 -- ---- one reading
 
@@ -145,6 +145,7 @@ refuses_words NoCertificate call says none = elim says [
 ]
 refuses_words RomTooLarge call says none = absurd (nothing_asked call.words says.asked says.words none)
 refuses_words RamTooLarge call says none = absurd (nothing_asked call.words says.asked says.words none)
+refuses_words GamesTooLarge call says none = absurd (nothing_asked call.words says.asked says.words none)
 refuses_words _ call says none = absurd (nothing_asked call.words says.asked says.asks.words none)
 
 module _ (roms : RomsGiven) (call : Call) (asked : Asked) (files : FileMap) (offers : Offers call asked files) where
@@ -323,6 +324,7 @@ module _ (roms : RomsGiven) (call : Call) (asked : Asked) (files : FileMap) (off
   ]
   due_is RomTooLarge says r read due given = oversize_due r read due given RomTooLarge says
   due_is RamTooLarge says r read due given = oversize_due r read due given RamTooLarge says
+  due_is GamesTooLarge says r read due given = oversize_due r read due given GamesTooLarge says
   due_is status says r read due given = rejects_due r read due given status says
 
   module _ (contents : List (List ℕ)) (there : Reads files (needed asked) (Whole contents)) (accepted : ¬ AreRefused asked contents) where
@@ -379,6 +381,7 @@ module _ (roms : RomsGiven) (call : Call) (asked : Asked) (files : FileMap) (off
     ends NoCertificate says out err = elim says [ inl nothing ↦ inr (inr (refl, searches nothing)) | inr gives ↦ absurd (not_rejected NoCertificate gives) ]
     ends RomTooLarge says out err = absurd (not_larger RomTooLarge says)
     ends RamTooLarge says out err = absurd (not_larger RamTooLarge says)
+    ends GamesTooLarge says out err = absurd (not_larger GamesTooLarge says)
     ends status says out err = absurd (not_rejected status says)
 
 pub gives_due : RomsGiven → (status : Status) (call : Call) → Says status call → GivesDue status call

@@ -37,7 +37,7 @@ pub record WritesTiming (source : List ℕ) (entry : Entry) (p k : ℕ) (pieces 
   pub address : ℕ
   pub entered : entry_in made.made entry ≡ Some address
   pub found : IsFound (rom_in source) address p k text
-  pub leaves : IsWithin (rom_in source) text (record { entry = address; limit = found.bound.limit })
+  pub leaves : IsWithin (rom_in source) text (record { entry = address; limit = found.certificate.bound.limit })
 
 -- none of these events is a stop
 abbrev pub NoneStops : List Event → Type 0

@@ -6,6 +6,7 @@ use Rattle.chip8_lang.specs.declared.view.Edition.{Edition}
 use Rattle.chip8_lang.specs.Editions.{memory_end, memory_start, rows_of}
 use Rattle.chip8_lang.specs.Screen.{empty}
 use Rattle.chip8_lang.specs.State.{memory_byte}
+use Rattle.asm_core.specs.Origins.{labels_over}
 use Rattle.vip_byte.specs.Text.{newline}
 use Rattle.vip_text.specs.Endings.{Ending}
 use Rattle.vip_text.specs.Endings.Ending.{AtLimit, AtStop}
@@ -62,7 +63,7 @@ module _ (e : Edition) (looks : Looks) (limit : ℕ) (points : List Point) (endi
   abbrev pub ShowsCode : ℕ → ℕ → Option Point → ℕ → List (List ℕ) → Type 0
   ShowsCode address count None t pieces = Unit {0}
   ShowsCode address count (Some p) t pieces =
-      p.cycle ≡ t → memory_start ≤ address → address + 2 * count ≤ memory_end e → pieces ≡ code_lines (memory_byte p.state) looks.labels address count
+      p.cycle ≡ t → memory_start ≤ address → address + 2 * count ≤ memory_end e → pieces ≡ code_lines (memory_byte p.state) (labels_over looks.origins) address count
 
   -- a command that runs the board names the stop, where that is met
   abbrev pub NamesStop : ℕ → List (List ℕ) → Type 0

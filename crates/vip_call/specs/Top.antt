@@ -11,6 +11,7 @@ use Rattle.asm_core.specs.Sources.{source_lines}
 use Rattle.asm_core.specs.Told.{IsFirstTold}
 use Rattle.asm_core.specs.declared.findings.Finding.{Finding}
 use Rattle.vip_words.specs.Asked.{asked_by}
+use Rattle.vip_words.specs.Broken.{RefusedByRule}
 use Rattle.vip_words.specs.Request.{Asked}
 use Rattle.vip_words.specs.Rules.{Word}
 use Rattle.game_check.specs.Least.{HasNone}
@@ -21,7 +22,7 @@ use Rattle.vip_words.specs.declared.request.TextVerb.TheVariants.{Asm, Check, Ti
 use Rattle.vip_tools.specs.declared.refusal.Kind.{Kind}
 use Rattle.vip_tools.specs.declared.refusal.Refusal.{Refusal}
 use Rattle.vip_tools.specs.declared.status.Status.{Status}
-use Rattle.vip_tools.specs.declared.status.Status.TheVariants.{Done, Stopped, Usage, ReadFault, GameTooLarge, ScriptTooLarge, BadSource, BadRomSource, RomDiffers, WriteFault, NoDispatch, NoMemory, SourceTooLarge, CommandsTooLarge, BadState, MessageTooLarge, CertificateTooLarge, NoCertificate, RomTooLarge, RamTooLarge}
+use Rattle.vip_tools.specs.declared.status.Status.TheVariants.{Done, Stopped, Usage, ReadFault, GameTooLarge, ScriptTooLarge, BadSource, BadRomSource, RomDiffers, WriteFault, NoDispatch, NoMemory, SourceTooLarge, CommandsTooLarge, BadState, MessageTooLarge, CertificateTooLarge, NoCertificate, RomTooLarge, RamTooLarge, GamesTooLarge}
 use Rattle.vip_text.specs.declared.fault.StateFault.{StateFault}
 use Rattle.vip_tools.specs.Files.{Loaded, Needed, files_of, needed, shape_of, HasAll, HasFault, IsRight, ComesTo, IsFaulty, IsLarger, IsUnread, OnlyReads, ReadsSome, reads_of, with_reads}
 use Rattle.vip_call.specs.Certified.{Certifies}
@@ -203,6 +204,7 @@ Says CertificateTooLarge call = Oversize CertificateTooLarge call
 Says NoCertificate call = GivesUp call ⊎ Rejects NoCertificate call
 Says RomTooLarge call = Oversize RomTooLarge call
 Says RamTooLarge call = Oversize RamTooLarge call
+Says GamesTooLarge call = Oversize GamesTooLarge call
 Says status call = Rejects status call
 
 -- ---- when they come
@@ -436,6 +438,8 @@ pub record Promises (status : Status) (call : Call) : Type 0 where
   pub checked : ChecksSources call
   -- where two boards are joined, what arrived is the beginning of the message, and all of it after enough moves
   pub linked : BringsMessages call
+  -- words are refused exactly where a rule is named, which is what `why` says of them
+  pub rules : RefusedByRule
   -- when each answer is due, that there is no other, and that none is that the ROM isn't what its source gives
   pub words : RefusesWords status call
   pub due : GivesDue status call

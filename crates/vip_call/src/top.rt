@@ -21,7 +21,7 @@ use vip_link::laws::{every_schedule, sources_give_roms};
 use vip_outside::{Files, Sink};
 use vip_tools::{Ended, PerformFault, Refusal, Status, put_end, put_fault, put_refusal};
 use vip_verbs::Prepared;
-use vip_words::{Request, WordsFail, read_words};
+use vip_words::{Request, WordsFail, read_words, refused_by_rule};
 
 /// What the words ask for.
 fn read_request<'a>(alloc: Global, words: &'a [String]) -> Result<Request<&'a str>, Refusal<'a>>
@@ -162,6 +162,7 @@ pub fn every_call()
     every_schedule();
     source_gives_rom();
     sources_give_roms();
+    refused_by_rule();
 }
 
 /// Runs the program on its words, as `vip_main` does, without the comparison of the ROMs with their sources: by the law of `chip8_source` it finds nothing, and

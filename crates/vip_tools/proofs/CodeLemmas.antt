@@ -5,7 +5,7 @@ use Rattle.std.proofs.lemmas.Bool.{cases_lt}
 use Rattle.std.proofs.lemmas.List.FromFn.{fill_by_all, get_or-map-range_with_len, length-map-range_with_len}
 use Rattle.asm_lex.specs.declared.shape.Isa.TheVariants.{Cdp1802, Chip8}
 use Rattle.asm_core.specs.Made.{Made, IsAssembly}
-use Rattle.asm_core.specs.Labels.{labels_of}
+use Rattle.asm_core.specs.Origins.{origins_of}
 use Rattle.asm_core.specs.Sources.{source_lines}
 use Rattle.asm_lex.specs.Names.{number_from, value_in}
 use Rattle.asm_lex.specs.declared.shape.Isa.{Isa}
@@ -17,7 +17,7 @@ use Rattle.vip_tools.specs.declared.refusal.Misfit.TheVariants.{Stray}
 use Rattle.vip_tools.specs.declared.refusal.Refusal.{Refusal}
 use Rattle.vip_tools.specs.declared.refusal.Refusal.TheVariants.{Misfit, NoMemory}
 use Rattle.vip_tools.specs.Certificates.{made_byte, source_byte}
-use Rattle.vip_tools.specs.Code.{FitComes, GameAnswers, ImageAnswers, IsRawGame, MadeGameAnswers, MadeImageAnswers, is_memory, is_stray, known_of, marked}
+use Rattle.vip_tools.specs.Code.{FitComes, GameAnswers, ImageAnswers, IsRawGame, Known, MadeGameAnswers, MadeImageAnswers, is_memory, is_stray, known_of, marked}
 use Rattle.vip_tools.specs.Opening.{SourceComes}
 use Rattle.vip_tools.specs.declared.code.Marks.{Marks}
 use Rattle.vip_tools.specs.Files.{ram_size, rom_size}
@@ -27,9 +27,13 @@ use Rattle.vip_tools.proofs.JudgedLemmas.{refused-behind}
 
 -- the marks of an assembly are those of its source
 pub made-marks : (isa : Isa) (text : List ℕ) (made : Made) → IsAssembly isa (source_lines text) made → (marks : Marks) → marks.names ≡ made.names
-    → marks.labels ≡ labels_of isa (source_lines text) → marked marks ≡ known_of isa (Text text)
-made-marks isa text made is marks named labelled = λ i.
-    record { names = λ name. number_from ((ap (λ names. value_in names name) named ∙ is.names name) i); labels = labelled i }
+    → marks.origins ≡ origins_of isa (source_lines text) → marked marks ≡ known_of isa (Text text)
+made-marks isa text made is marks named given = λ i.
+    record { names = λ name. number_from ((ap (λ names. value_in names name) named ∙ is.names name) i); origins = given i }
+
+-- what is known of a source goes by its text
+pub known-moved : (isa : Isa) (known : Known) (text text' : List ℕ) → text ≡ text' → known ≡ known_of isa (Text text) → known ≡ known_of isa (Text text')
+known-moved isa known text text' same is = is ∙ ap (λ t. known_of isa (Text t)) same
 
 -- ---- a game
 

@@ -1,9 +1,10 @@
 pub mod DemoLemmas
 pub mod FilesLemmas
-mod JoinLemmas
+pub mod JoinLemmas
 mod LoadingLemmas
 pub mod JudgedLemmas
 pub mod WorkLemmas
 pub mod CodeLemmas
 mod CertificateLemmas
 mod ReportLemmas
+pub mod GamesLemmas

@@ -3,7 +3,7 @@ use Rattle.std.specs.Prelude.{◌≡◌, ◌<◌, ◌≤◌, ◌&&◌, ◌||◌,
 use Rattle.chip8_lang.specs.State.{memory_size}
 use Rattle.chip8_lang.specs.declared.view.Edition.{Edition}
 use Rattle.asm_core.specs.Made.{Made, IsAssembly}
-use Rattle.asm_core.specs.Labels.{labels_of}
+use Rattle.asm_core.specs.Origins.{Origins, no_origins, origins_of}
 use Rattle.asm_core.specs.Sources.{source_lines, all_names}
 use Rattle.asm_lex.specs.Names.{number_named, value_in}
 use Rattle.asm_lex.specs.declared.shape.Isa.{Isa}
@@ -104,22 +104,22 @@ ImageComes memory (Source text) = bind (SourceComes Cdp1802 text) (λ made. Laid
 
 -- ---- what is known of code besides its bytes
 
--- the number that each name of a source stands for, and its labels
+-- the number that each name of a source stands for, and what the source gave each address, with its labels
 pub record Known : Type 0 where
   pub names : List ℕ → Option ℕ
-  pub labels : List (ℕ × List ℕ)
+  pub origins : Origins
 
 abbrev pub nothing_known : Known
-nothing_known = record { names = λ name. None; labels = [] }
+nothing_known = record { names = λ name. None; origins = no_origins }
 
 abbrev pub known_of : Isa → Code (List ℕ) → Known
 known_of isa (Bytes bytes) = nothing_known
 known_of isa (Source text) =
-    record { names = number_named (all_names isa (source_lines text)); labels = labels_of isa (source_lines text) }
+    record { names = number_named (all_names isa (source_lines text)); origins = origins_of isa (source_lines text) }
 
 -- what the marks of a source say
 abbrev pub marked : Marks → Known
-marked marks = record { names = number_named (value_in marks.names); labels = marks.labels }
+marked marks = record { names = number_named (value_in marks.names); origins = marks.origins }
 
 -- ---- what the calls answer
 

@@ -25,10 +25,10 @@ use Rattle.vip_words.specs.declared.request.Show.TheVariants as show
 use Rattle.vip_words.specs.declared.request.Start.{Start as Beginning}
 use Rattle.vip_words.specs.declared.request.Start.TheVariants as start
 use Rattle.vip_words.specs.declared.request.TextVerb.{TextVerb}
-use Rattle.vip_words.specs.declared.request.TextVerb.TheVariants.{Dis}
+use Rattle.vip_words.specs.declared.request.TextVerb.TheVariants.{Dis, Digest}
 use Rattle.vip_tools.specs.declared.files.Wanted.{Wanted}
 use Rattle.vip_tools.specs.declared.refusal.Kind.{Kind}
-use Rattle.vip_tools.specs.declared.refusal.Kind.TheVariants.{Game, TallGame, Script, Commands, Source, Certificate, State, Message, Rom, Ram}
+use Rattle.vip_tools.specs.declared.refusal.Kind.TheVariants.{Game, TallGame, Script, Commands, Source, Certificate, State, Message, Rom, Ram, Games}
 use Rattle.vip_tools.specs.declared.refusal.Refusal.{Refusal}
 use Rattle.vip_tools.specs.declared.refusal.Refusal.TheVariants.{Unread, TooLarge, State as BadState, NoMemory}
 
@@ -70,6 +70,11 @@ abbrev pub most_of : TextVerb → ℕ
 most_of (Dis place) = last_of place.isa + 1 - place.address
 most_of _ = most_text
 
+-- what it is: a list of games, or a source
+abbrev pub kind_of : TextVerb → Kind
+kind_of (Digest limit) = Games
+kind_of _ = Source
+
 module _ {N : Type 0} where
   abbrev pub file : Kind → ℕ → N → Needed N
   file kind most n = record { file = n; most = most; kind = kind }
@@ -94,7 +99,7 @@ module _ {N : Type 0} where
   source_file n = file Source most_text n
 
   abbrev pub text_file : TextVerb → N → Needed N
-  text_file verb n = file Source (most_of verb) n
+  text_file verb n = file (kind_of verb) (most_of verb) n
 
   abbrev pub certificate_file : N → Needed N
   certificate_file n = file Certificate most_text n

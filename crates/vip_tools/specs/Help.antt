@@ -5,6 +5,7 @@ use Rattle.vip_tools.specs.Judged.{Judged}
 use Rattle.vip_tools.specs.Outcome.{Output, Writes}
 use Rattle.vip_words.specs.Rules.{Word}
 use Rattle.vip_words.specs.Table.{Row, about, every_verb, notes, row, with_value}
+use Rattle.vip_words.specs.Why.{why_line}
 use Rattle.vip_words.specs.declared.table.Verb.{Verb}
 
 -- a text that is filled up with blanks to a column
@@ -64,3 +65,8 @@ version_text = codes "vip 1.1-dev" ++ newline
 
 abbrev pub VersionComes : Judged Output
 VersionComes = Writes version_text
+
+-- ---- what is made of words
+
+abbrev pub WhyComes : List Word → Judged Output
+WhyComes words = Writes (why_line words)

@@ -1,4 +1,5 @@
 pub mod Files
+pub mod Games
 pub mod Loading
 pub mod Demo
 pub mod Judged

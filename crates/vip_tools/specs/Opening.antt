@@ -16,7 +16,10 @@ use Rattle.vip_words.specs.declared.debug_commands.Speaks.{Speaks}
 use Rattle.vip_keypad.specs.declared.script.ScriptFault.{ScriptFault}
 use Rattle.vip_keypad.specs.declared.script.ScriptFault.TheVariants as script
 use Rattle.vip_tools.specs.declared.refusal.Refusal.{Refusal}
-use Rattle.vip_tools.specs.declared.refusal.Refusal.TheVariants.{Script, Command, Source, Rom, NoMemory}
+use Rattle.vip_tools.specs.declared.refusal.Refusal.TheVariants.{Script, Command, Source, Games, Rom, NoMemory}
+use Rattle.vip_tools.specs.Games.{Game, GamesFault, games_of}
+use Rattle.vip_tools.specs.declared.games.LineFault.{LineFault}
+use Rattle.vip_tools.specs.declared.games.LineFault.TheVariants as unread
 use Rattle.vip_tools.specs.Judged.{Judged, judged}
 use Rattle.vip_tools.specs.Outcome.{script_in}
 
@@ -38,6 +41,13 @@ abbrev pub rom_refusal : ImageFault → Refusal
 rom_refusal image.NoMemory = NoMemory
 rom_refusal fault = Rom fault
 
+abbrev pub games_refusal : GamesFault → Refusal
+games_refusal fault = Games fault.line fault.cause
+
+abbrev pub line_refusal : ℕ → LineFault → Refusal
+line_refusal number (unread.Cause cause) = Games number cause
+line_refusal number unread.NoMemory = NoMemory
+
 -- ---- what is judged
 
 -- the content of a key script, where there is one
@@ -46,6 +56,10 @@ keys_in = option_map (λ script. script.items)
 
 abbrev pub ScriptComes : Option (List ℕ) → Judged (List KeyEvent)
 ScriptComes keys = judged (λ events. script_in keys ≡ Ok events) (λ fault. script_in keys ≡ Err fault) script_refusal
+
+-- a list of games
+abbrev pub GamesCome : List ℕ → Judged (List Game)
+GamesCome list = judged (λ games. games_of list ≡ Ok games) (λ fault. games_of list ≡ Err fault) games_refusal
 
 -- the debugger's commands
 abbrev pub CommandsCome : Speaks → (List ℕ → Option ℕ) → Bool → ℕ → List ℕ → Judged (List Spoken)

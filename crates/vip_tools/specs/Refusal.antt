@@ -1,12 +1,12 @@
 -- The status of each refusal.
 use Rattle.vip_tools.specs.declared.refusal.Kind.{Kind}
-use Rattle.vip_tools.specs.declared.refusal.Kind.TheVariants.{Game, TallGame, Script, Commands, Source, Certificate, State, Message, Rom, Ram}
+use Rattle.vip_tools.specs.declared.refusal.Kind.TheVariants.{Game, TallGame, Script, Commands, Source, Certificate, State, Message, Rom, Ram, Games}
 use Rattle.vip_tools.specs.declared.refusal.Refusal.{Refusal}
 use Rattle.vip_tools.specs.declared.refusal.Misfit.{Misfit}
 use Rattle.vip_tools.specs.declared.refusal.Misfit.TheVariants as misfit
 use Rattle.vip_tools.specs.declared.refusal.Refusal.TheVariants as refusal
 use Rattle.vip_tools.specs.declared.status.Status.{Status}
-use Rattle.vip_tools.specs.declared.status.Status.TheVariants.{Usage, ReadFault, GameTooLarge, ScriptTooLarge, BadScript, BadSource, BadRomSource, RomDiffers, NoMemory, BadCommand, SourceTooLarge, CommandsTooLarge, BadState, BadCertificate, MessageTooLarge, BadProof, CertificateTooLarge, NoCertificate, RomTooLarge, RamTooLarge, StrayByte}
+use Rattle.vip_tools.specs.declared.status.Status.TheVariants.{Usage, ReadFault, GameTooLarge, ScriptTooLarge, BadScript, BadSource, BadRomSource, RomDiffers, NoMemory, BadCommand, SourceTooLarge, CommandsTooLarge, BadState, BadCertificate, MessageTooLarge, BadProof, CertificateTooLarge, NoCertificate, RomTooLarge, RamTooLarge, StrayByte, GamesTooLarge, BadGames}
 use Rattle.chip8_source.specs.declared.fault.ImageFault.{ImageFault}
 use Rattle.chip8_source.specs.declared.fault.ImageFault.TheVariants as image
 
@@ -21,6 +21,7 @@ too_large_status State = BadState
 too_large_status Message = MessageTooLarge
 too_large_status Rom = RomTooLarge
 too_large_status Ram = RamTooLarge
+too_large_status Games = GamesTooLarge
 
 abbrev pub image_status : ImageFault → Status
 image_status (image.BadRomSource line cause) = BadRomSource
@@ -43,6 +44,7 @@ status_of (refusal.State fault) = BadState
 status_of (refusal.Rom fault) = image_status fault
 status_of (refusal.Certificate line cause) = BadCertificate
 status_of (refusal.Proof line cause) = BadProof
+status_of (refusal.Games line cause) = BadGames
 status_of (refusal.NoCertificate obstacle) = NoCertificate
 status_of (refusal.NoTiming why) = NoCertificate
 status_of refusal.NoMemory = NoMemory

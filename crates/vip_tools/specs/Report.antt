@@ -27,6 +27,8 @@ use Rattle.vip_byte.specs.Text.{newline}
 use Rattle.vip_text.specs.Endings.{Ending, ending_in}
 use Rattle.vip_text.specs.Endings.Ending.{AtLimit, AtStop}
 use Rattle.vip_tools.specs.Files.{most_message, most_text, ram_size, rom_size}
+use Rattle.vip_tools.specs.Games.{game_cause_name}
+use Rattle.vip_tools.specs.declared.games.GameCause.{GameCause}
 use Rattle.vip_tools.specs.declared.ended.Ended.{Ended}
 use Rattle.vip_tools.specs.declared.ended.Ended.TheVariants.{Worked, Checked, Ran, Idle, Linked}
 use Rattle.vip_tools.specs.declared.fault.PerformFault.{PerformFault}
@@ -34,7 +36,7 @@ use Rattle.vip_tools.specs.declared.fault.PerformFault.TheVariants.{NoDispatch, 
 use Rattle.vip_tools.specs.declared.refusal.Kind.{Kind}
 use Rattle.vip_tools.specs.declared.refusal.Misfit.{Misfit}
 use Rattle.vip_tools.specs.declared.refusal.Misfit.TheVariants as misfit
-use Rattle.vip_tools.specs.declared.refusal.Kind.TheVariants.{Game, TallGame, Script, Commands, Source, Certificate, State, Message, Rom, Ram}
+use Rattle.vip_tools.specs.declared.refusal.Kind.TheVariants.{Game, TallGame, Script, Commands, Source, Certificate, State, Message, Rom, Ram, Games}
 use Rattle.vip_tools.specs.declared.refusal.NoTiming.{NoTiming}
 use Rattle.vip_tools.specs.declared.refusal.NoTiming.TheVariants.{Undefined, Obstacle as Ended_at}
 use Rattle.vip_tools.specs.declared.refusal.Refusal.{Refusal}
@@ -91,6 +93,7 @@ too_large_report State = bad_state BadLength
 too_large_report Message = larger_than (codes "vip: message larger than ") most_message
 too_large_report Rom = larger_than (codes "vip: rom larger than ") rom_size
 too_large_report Ram = larger_than (codes "vip: program larger than ") ram_size
+too_large_report Games = larger_than (codes "vip: games larger than ") most_text
 
 -- the words are refused, or a file could not be read
 abbrev pub usage : List ℕ
@@ -119,6 +122,10 @@ bad_certificate line cause = at_line (codes "vip: certificate line ") line (cert
 
 abbrev pub bad_proof : ℕ → ProofCause → List ℕ
 bad_proof line cause = at_line (codes "vip: proof line ") line (proof_cause_name cause)
+
+-- and of a list of games
+abbrev pub bad_games : ℕ → GameCause → List ℕ
+bad_games line cause = at_line (codes "vip: games line ") line (game_cause_name cause)
 
 -- a claim of a game that can't be closed: its cause, the opcode where it has one, pc, the range of I, and the stack
 unfoldable pub open_line : OpenClaim → List ℕ
@@ -173,6 +180,7 @@ report_of (refusal.State fault) = bad_state fault
 report_of (refusal.Rom fault) = image_report fault
 report_of (refusal.Certificate line cause) = bad_certificate line cause
 report_of (refusal.Proof line cause) = bad_proof line cause
+report_of (refusal.Games line cause) = bad_games line cause
 report_of (refusal.NoCertificate obstacle) = no_certificate obstacle
 report_of (refusal.NoTiming why) = no_timing why
 report_of refusal.NoMemory = no_memory

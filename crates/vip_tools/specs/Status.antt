@@ -7,7 +7,7 @@ use Rattle.vip_tools.specs.declared.ended.Ended.TheVariants.{Worked, Checked, Ra
 use Rattle.vip_tools.specs.declared.fault.PerformFault.{PerformFault}
 use Rattle.vip_tools.specs.declared.fault.PerformFault.TheVariants as fault
 use Rattle.vip_tools.specs.declared.status.Status.{Status}
-use Rattle.vip_tools.specs.declared.status.Status.TheVariants.{Done, Stopped, Usage, ReadFault, GameTooLarge, ScriptTooLarge, BadScript, BadSource, BadRomSource, RomDiffers, WriteFault, NoMemory, BadCommand, SourceTooLarge, CommandsTooLarge, BadState, NoDispatch, BadCertificate, MessageTooLarge, BadProof, CertificateTooLarge, NoCertificate, RomTooLarge, RamTooLarge, StrayByte}
+use Rattle.vip_tools.specs.declared.status.Status.TheVariants.{Done, Stopped, Usage, ReadFault, GameTooLarge, ScriptTooLarge, BadScript, BadSource, BadRomSource, RomDiffers, WriteFault, NoMemory, BadCommand, SourceTooLarge, CommandsTooLarge, BadState, NoDispatch, BadCertificate, MessageTooLarge, BadProof, CertificateTooLarge, NoCertificate, RomTooLarge, RamTooLarge, StrayByte, GamesTooLarge, BadGames}
 
 abbrev pub status_number : Status → ℕ
 status_number Done = 0
@@ -35,6 +35,8 @@ status_number NoCertificate = 21
 status_number RomTooLarge = 22
 status_number RamTooLarge = 23
 status_number StrayByte = 24
+status_number GamesTooLarge = 25
+status_number BadGames = 26
 
 -- at the end of a run, and of a verb's work
 abbrev pub end_status : Ending → Status

@@ -11,7 +11,7 @@ use crate::Refusal;
 use crate::files::{RAM, ROM, are_bytes};
 use crate::refusal::Misfit;
 use crate::tools::make_assembly;
-use asm_core::{Assembly, Labels};
+use asm_core::{Assembly, Origins};
 use asm_lex::{Isa, Symbols};
 use asm_listing::raw;
 use chip8_lang::Edition;
@@ -31,11 +31,11 @@ pub struct Image {
     pub ram: Vec<u8>,
 }
 
-/// What is known of code besides its bytes: the names of its source with their values, and its labels.
+/// What is known of code besides its bytes: the names of its source with their values, and what the source gave each address.
 #[derive(Drop)]
 pub struct Marks {
     pub names: Symbols,
-    pub labels: Labels,
+    pub origins: Origins,
 }
 
 impl Marks {
@@ -51,7 +51,7 @@ impl Marks {
     {
         Marks {
             names: Symbols::new(alloc),
-            labels: Labels::none(alloc),
+            origins: Origins::none(alloc),
         }
     }
 
@@ -60,11 +60,8 @@ impl Marks {
         requires { IsAssembly isa (source_lines text.now) made }
         ensures { IfOk result (λ marks. marked marks ≡ known_of isa (Source text.now)) }
     {
-        let labels = Labels::of(alloc, text, &made)?;
-        Ok(Marks {
-            names: made.into_names(),
-            labels,
-        })
+        let (names, origins) = Origins::of(alloc, text, made)?;
+        Ok(Marks { names, origins })
     }
 }
 

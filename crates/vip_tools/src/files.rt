@@ -3,8 +3,8 @@
 ghost use Rattle.std.specs.Prelude.{◌≡◌, ◌<◌, ◌+◌, ◌-◌, ℕ, slice_index};
 ghost use Rattle.asm_lex.specs.Ranges.{last_of};
 ghost use Rattle.vip_words.specs.Request.{code_of};
-ghost use Rattle.vip_tools.specs.declared.refusal.Kind.TheVariants.{Source};
-ghost use Rattle.vip_tools.specs.Files.{certificate_file, code_file, commands_file, file, game_code, game_kind, message_file, program_code, script_file, seen_wanted, source_file, state_file, text_file, FileAnswers, JudgeAnswers};
+ghost use Rattle.vip_tools.specs.declared.refusal.Kind.TheVariants.{Games, Source};
+ghost use Rattle.vip_tools.specs.Files.{certificate_file, code_file, commands_file, file, game_code, game_kind, message_file, most_text, program_code, script_file, seen_wanted, source_file, state_file, text_file, FileAnswers, JudgeAnswers};
 
 use crate::{Kind, Refusal};
 use asm_lex::Isa;
@@ -150,12 +150,24 @@ fn bytes_file<'a>(place: Place, name: &'a str) -> Wanted<'a>
     }
 }
 
+/// A list of games.
+fn games_file<'a>(name: &'a str) -> Wanted<'a>
+    ensures { seen_wanted result ≡ file Games most_text name.now }
+{
+    Wanted {
+        name,
+        most: MOST_TEXT,
+        kind: Kind::Games,
+    }
+}
+
 /// The file of which a text is made.
 pub(crate) fn text_file<'a>(verb: &TextVerb, name: &'a str) -> Wanted<'a>
     ensures { seen_wanted result ≡ text_file verb.now name.now }
 {
     match verb {
         TextVerb::Dis { place } => bytes_file(*place, name),
+        TextVerb::Digest { .. } => games_file(name),
         _ => source_file(name),
     }
 }

@@ -89,6 +89,7 @@ fn load_program_show<'a, F: Files>(
         }
         ProgramShow::Trace => Ok(ProgramShow::Trace),
         ProgramShow::Pictures => Ok(ProgramShow::Pictures),
+        ProgramShow::Profile => Ok(ProgramShow::Profile),
     }
 }
 

@@ -1,14 +1,14 @@
-//! The pages of the verbs, and the version of the program.
+//! The pages of the verbs, the version of the program, and what is made of words.
 
-ghost use Rattle.std.specs.Prelude.{◌++◌, ◌≡◌, flat_map, map, IfOk, OnOk};
+ghost use Rattle.std.specs.Prelude.{◌++◌, ◌≡◌, flat_map, map, string_bytes, IfOk, OnOk};
 ghost use Rattle.vip_words.specs.Usage.{row_of};
-ghost use Rattle.vip_tools.specs.Help.{note_line, option_line, option_text, padded, verb_line, verb_page, verbs_page, with_words, word_text, HelpComes, VersionComes};
+ghost use Rattle.vip_tools.specs.Help.{note_line, option_line, option_text, padded, verb_line, verb_page, verbs_page, with_words, word_text, HelpComes, VersionComes, WhyComes};
 ghost use Rattle.vip_tools.specs.Work.{TextAnswers};
 
 use crate::Refusal;
 use crate::report::{append, line};
 use std::alloc::{AllocError, Global};
-use vip_words::{Row, VERBS, Verb, about, with_value};
+use vip_words::{Row, VERBS, Verb, about, why_line, with_value};
 
 /// The blanks before what a verb writes, in the page of all verbs.
 const VERB_COLUMN: &[u8] = b"                            ";
@@ -152,6 +152,14 @@ pub fn help<'a>(alloc: Global, verb: Option<Verb>) -> Result<Vec<u8>, Refusal<'a
         Some(verb) => verb_page(alloc, &verb.row(), verb.notes())?,
     };
     Ok(text)
+}
+
+/// What is made of words.
+pub fn why<'a>(alloc: Global, words: &[String]) -> Result<Vec<u8>, Refusal<'a>>
+    ensures { TextAnswers (WhyComes (map string_bytes words.now)) result }
+{
+    let line = why_line(alloc, words)?;
+    Ok(line.into_bytes())
 }
 
 /// The name and the version of the program.

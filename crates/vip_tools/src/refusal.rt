@@ -3,6 +3,7 @@
 ghost use Rattle.std.specs.Prelude.{◌≡◌};
 ghost use Rattle.vip_tools.specs.Refusal.{status_of};
 
+use crate::games::GameCause;
 use crate::status::Status;
 use asm_core::AsmCause;
 use chip8_lang::Edition;
@@ -38,6 +39,8 @@ pub enum Kind {
     Rom,
     /// A program in the RAM, at most 4,096 bytes.
     Ram,
+    /// A list of games, at most 1,048,576 bytes.
+    Games,
 }
 
 /// Why the bytes that a source gives can't be run.
@@ -83,6 +86,8 @@ pub enum Refusal<'a> {
     Certificate { line: u32, cause: CertCause },
     /// The first fault of a game's certificate, in this line, counted from 1.
     Proof { line: u32, cause: ProofCause },
+    /// The first fault of a list of games, in this line, counted from 1.
+    Games { line: u32, cause: GameCause },
     /// No certificate was found for a game: the search ended here.
     NoCertificate(Obstacle),
     /// No certificate was found for a routine.
@@ -109,6 +114,7 @@ impl Refusal<'_> {
             Refusal::TooLarge(Kind::Message) => Status::MessageTooLarge,
             Refusal::TooLarge(Kind::Rom) => Status::RomTooLarge,
             Refusal::TooLarge(Kind::Ram) => Status::RamTooLarge,
+            Refusal::TooLarge(Kind::Games) => Status::GamesTooLarge,
             Refusal::Script { .. } => Status::BadScript,
             Refusal::Command { .. } => Status::BadCommand,
             Refusal::Source { .. } => Status::BadSource,
@@ -117,6 +123,7 @@ impl Refusal<'_> {
             Refusal::Rom(ImageFault::RomDiffers { .. }) => Status::RomDiffers,
             Refusal::Certificate { .. } => Status::BadCertificate,
             Refusal::Proof { .. } => Status::BadProof,
+            Refusal::Games { .. } => Status::BadGames,
             Refusal::NoCertificate(_) | Refusal::NoTiming(_) => Status::NoCertificate,
             Refusal::NoMemory | Refusal::Rom(ImageFault::NoMemory) => Status::NoMemory,
         }

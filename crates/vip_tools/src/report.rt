@@ -26,7 +26,7 @@ use vip_outside::{Failed, Sink};
 use vip_text::{RunEnd, StateFault, idle_text, stop_text};
 
 /// Appends these parts.
-pub(crate) fn append(text: &mut Vec<u8>, parts: &[&[u8]]) -> Result<(), AllocError>
+pub fn append(text: &mut Vec<u8>, parts: &[&[u8]]) -> Result<(), AllocError>
     ensures { OnOk result (text.new.items ≡ text.old.items ++ flat_map (λ part. part.now) parts.now) }
 {
     for part in parts {
@@ -111,6 +111,7 @@ fn too_large(alloc: Global, kind: Kind) -> Result<Vec<u8>, AllocError>
         Kind::Message => larger(alloc, b"vip: message larger than ", MOST_MESSAGE),
         Kind::Rom => larger(alloc, b"vip: rom larger than ", ROM),
         Kind::Ram => larger(alloc, b"vip: program larger than ", RAM),
+        Kind::Games => larger(alloc, b"vip: games larger than ", MOST_TEXT),
     }
 }
 
@@ -214,6 +215,9 @@ fn refusal_line(alloc: Global, refusal: &Refusal<'_>) -> Result<Vec<u8>, AllocEr
         Refusal::Proof { line, cause } => {
             at_line(alloc, b"vip: proof line ", *line, cause.name())
         }
+        Refusal::Games { line, cause } => {
+            at_line(alloc, b"vip: games line ", *line, cause.name())
+        }
         Refusal::NoCertificate(found) => obstacle(alloc, found),
         Refusal::NoTiming(why) => no_timing(alloc, why),
         Refusal::NoMemory => line(alloc, &[NO_MEMORY]),
@@ -269,7 +273,7 @@ fn linked_text(sent: u32, received: u32, into: &mut Buffer)
 }
 
 /// Writes the report of how a command ended into an empty buffer: nothing where a text alone was written.
-fn end_text(ended: &Ended, into: &mut Buffer)
+pub fn end_text(ended: &Ended, into: &mut Buffer)
     requires { into.old.items ≡ [] }
     ensures { into.new.items ≡ ended_report ended.now }
 {

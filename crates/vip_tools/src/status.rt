@@ -55,6 +55,10 @@ pub enum Status {
     RamTooLarge,
     /// A source gives a byte where no memory is.
     StrayByte,
+    /// A list of games has more than 1,048,576 bytes.
+    GamesTooLarge,
+    /// A list of games has a fault.
+    BadGames,
 }
 
 impl Status {
@@ -88,6 +92,8 @@ impl Status {
             Status::RomTooLarge => 22,
             Status::RamTooLarge => 23,
             Status::StrayByte => 24,
+            Status::GamesTooLarge => 25,
+            Status::BadGames => 26,
         }
     }
 }

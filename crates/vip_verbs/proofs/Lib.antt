@@ -2,3 +2,4 @@ mod FitLemmas
 pub mod WorkLemmas
 pub mod ProgramLemmas
 pub mod LinkLemmas
+mod DigestLemmas

@@ -1,5 +1,6 @@
 -- The verbs of a program: what their opening answers, from the answer of its start, and what their work does.
 use Rattle.std.proofs.Common.{◌≡◌, ℕ, List, [], refl, sym, ap, subst, Option, Result, Ok, Err}
+use Rattle.asm_core.specs.Origins.{Origins}
 use Rattle.vip_board.specs.Seen.{Seen}
 use Rattle.vip_words.specs.Spoken.{Spoken}
 use Rattle.vip_debug.specs.Programs.{ProgramAnswers}
@@ -41,7 +42,7 @@ module _ (memory : Memory) (rom ram : List ℕ) (keys : Option (List ℕ)) where
         → RefusedBy (ProgramShowComes known memory rom ram keys limit asked) refusal
     refused-program-show (show.Commands text echo) refusal by =
         refused-first (CommandsCome Processor known.names echo limit text)
-        (λ commands. ProgramComes memory rom ram keys (program_debugged known.labels commands limit)) refusal by
+        (λ commands. ProgramComes memory rom ram keys (program_debugged known.origins commands limit)) refusal by
     refused-program-show asked refusal by = by-each (λ (commands : List Spoken). commands ≡ []) (ProgramShowComes known memory rom ram keys limit asked) (cause_of refusal) by
 
     -- it is ready, so it comes to what it makes of its board
@@ -55,8 +56,9 @@ module _ (memory : Memory) (rom ram : List ℕ) (keys : Option (List ℕ)) where
       comes-as : (asked : ProgramShow (List ℕ)) → IsProgramShow known limit asked ready → (o : Outcome) → Comes o → ProgramShowComes known memory rom ram keys limit asked o
       comes-as show.Trace is o come = rw (is.2, is.1) at come
       comes-as show.Pictures is o come = rw is at come
+      comes-as show.Profile is o come = rw is.1 at come
       comes-as (show.Commands text echo) is o come =
-          behind (CommandsCome Processor known.names echo limit text) (λ commands. ProgramComes memory rom ram keys (program_debugged known.labels commands limit)) is.0
+          behind (CommandsCome Processor known.names echo limit text) (λ commands. ProgramComes memory rom ram keys (program_debugged known.origins commands limit)) is.0
           is.2 o (rw (is.4, is.3) at come)
 
       pub program-comes : (asked : ProgramShow (List ℕ)) → IsProgramShow known limit asked ready → (board : Seen) → BoardComes memory rom ram keys (Given board)
@@ -92,17 +94,17 @@ program-performs limit pieces board old new (Err failed) fails = fails
 
 -- what the commands answered
 pub program-debugs :
-    (labels : List (ℕ × List ℕ)) (limit : ℕ) (commands : List Spoken) (board board' : Seen) (old new : SinkMeaning) (r : Result ProgramEnd Failed)
-    → ProgramAnswers labels limit commands board board' old new r
-    → PerformAnswers (program_debugged labels commands limit board) old new (program_ended limit r)
-program-debugs labels limit commands board board' old new (Ok program.AtLimit) runs = record {
+    (origins : Origins) (limit : ℕ) (commands : List Spoken) (board board' : Seen) (old new : SinkMeaning) (r : Result ProgramEnd Failed)
+    → ProgramAnswers origins limit commands board board' old new r
+    → PerformAnswers (program_debugged origins commands limit board) old new (program_ended limit r)
+program-debugs origins limit commands board board' old new (Ok program.AtLimit) runs = record {
   puts = runs.puts;
   status_is = refl;
   report_is = ap (program_report limit) (sym runs.ending);
 }
-program-debugs labels limit commands board board' old new (Ok (program.Idle address)) runs = record {
+program-debugs origins limit commands board board' old new (Ok (program.Idle address)) runs = record {
   puts = runs.puts;
   status_is = refl;
   report_is = ap (program_report limit) (sym runs.ending);
 }
-program-debugs labels limit commands board board' old new (Err failed) fails = fails
+program-debugs origins limit commands board board' old new (Err failed) fails = fails

@@ -3,6 +3,7 @@ use Rattle.std.specs.Prelude.{◌≡◌, ◌≤◌, ℕ, List, [], length, Optio
 use Rattle.machine.specs.Keys.{Event as KeyEvent}
 use Rattle.chip8_lang.specs.State.{memory_size}
 use Rattle.chip8_lang.specs.declared.view.Edition.{Edition}
+use Rattle.asm_core.specs.Origins.{Origins}
 use Rattle.vip_relation.specs.Meets.{HasStopped}
 use Rattle.vip_relation.specs.State.{Start, VipState, begun}
 use Rattle.vip_relation.specs.State.Start.{Reset as AtReset}
@@ -24,7 +25,8 @@ use Rattle.vip_tools.specs.declared.refusal.Refusal.{Refusal}
 use Rattle.vip_tools.specs.Judged.{Judged, Of, RefusedBy, bind, each, only}
 use Rattle.vip_tools.specs.Judged.Verdict.{Given}
 use Rattle.vip_tools.specs.Opening.{CommandsCome, ScriptComes}
-use Rattle.vip_show.specs.declared.profile.Profile.{Profile}
+use Rattle.vip_program.specs.declared.instructions.ProgramProfile.{ProgramProfile}
+use Rattle.vip_show.specs.declared.opcodes.Profile.{Profile}
 use Rattle.vip_debug.specs.declared.looks.Looks.{Looks}
 use Rattle.vip_verbs.specs.Outcome.{IsSavedIn, RomComes, RunStart, StartComes, known_in, looks_of}
 use Rattle.vip_verbs.specs.declared.opening.Beginning.{Beginning}
@@ -102,11 +104,12 @@ ShowReady known limit asked (Err refusal) = RefusedBy (CommandsIn known limit as
 
 -- the same of a program
 abbrev pub IsProgramShow : Known → ℕ → ProgramShow (List ℕ) → ReadyProgramShow → Type 0
-IsProgramShow known limit program.Trace ready = (labels : List (ℕ × List ℕ)) × (labels ≡ known.labels) × (ready ≡ programs.Trace labels)
+IsProgramShow known limit program.Trace ready = (origins : Origins) × (origins ≡ known.origins) × (ready ≡ programs.Trace origins)
 IsProgramShow known limit program.Pictures ready = ready ≡ programs.Pictures
+IsProgramShow known limit program.Profile ready = (memory : ProgramProfile) × (ready ≡ programs.Profile memory)
 IsProgramShow known limit (program.Commands text echo) ready =
-    (commands : List Spoken) × (labels : List (ℕ × List ℕ)) × (commands_of Processor known.names echo limit text ≡ Ok commands) × (labels ≡ known.labels)
-    × (ready ≡ programs.Commands commands labels)
+    (commands : List Spoken) × (origins : Origins) × (commands_of Processor known.names echo limit text ≡ Ok commands) × (origins ≡ known.origins)
+    × (ready ≡ programs.Commands commands origins)
 
 abbrev pub ProgramCommandsIn : Known → ℕ → ProgramShow (List ℕ) → Judged (List Spoken)
 ProgramCommandsIn known limit (program.Commands text echo) = CommandsCome Processor known.names echo limit text

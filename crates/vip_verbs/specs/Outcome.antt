@@ -1,5 +1,8 @@
 -- What each command comes to, by the contents of its files.
-use Rattle.std.specs.Prelude.{◌≡◌, ℕ, List, [], ◌∷◌, ◌++◌, drop, if◌then◌else◌, Option, Some, None, option_map, Result, Ok, Err, length, max}
+use Rattle.std.specs.Prelude.{◌≡◌, ℕ, List, [], ◌∷◌, ◌++◌, drop, if◌then◌else◌, Option, Some, None, option_map, unwrap_or, Result, Ok, Err, length, max, codes, decimal}
+use Rattle.std.specs.List.{flat_map}
+use Rattle.hex.specs.Hex.{encode_lower}
+use Rattle.sha2.specs.Sha256.{sha256}
 use Rattle.machine.specs.Board.{Machine}
 use Rattle.machine.specs.Keys.{Event as KeyEvent, held_at}
 use Rattle.machine.specs.Run.{run_to}
@@ -16,6 +19,7 @@ use Rattle.vip_link.specs.Pair.{Pair}
 use Rattle.vip_link.specs.Schedules.{schedule_by}
 use Rattle.vip_words.specs.Spoken.{Spoken}
 use Rattle.vip_words.specs.declared.debug_commands.Speaks.TheVariants.{Chip8}
+use Rattle.vip_words.specs.Why.{why_line}
 use Rattle.vip_words.specs.declared.request.OwnText.{OwnText}
 use Rattle.vip_words.specs.declared.request.OwnText.TheVariants as own
 use Rattle.vip_words.specs.declared.request.PlainShow.{PlainShow}
@@ -33,6 +37,8 @@ use Rattle.chip8_image.specs.Interpreters.{interpreter_of}
 use Rattle.vip_relation.specs.Follows.{last_dispatch}
 use Rattle.vip_relation.specs.State.{Start, VipState, begun, events_from, first_events, interpreter, machine_of, state_after}
 use Rattle.vip_relation.specs.State.Start.{Reset, Saved}
+use Rattle.vip_outside.specs.Pieces.{joined}
+use Rattle.vip_show.specs.Digests.{digested_columns}
 use Rattle.vip_show.specs.Endings.{ending_of}
 use Rattle.vip_show.specs.Output.{count_of, is_dispatch_event, is_picture_event, lit_at, picture_pieces, screen_piece, trace_lines}
 use Rattle.vip_show.specs.Profile.{profile_pieces}
@@ -55,10 +61,11 @@ use Rattle.vip_tools.specs.Certificates.{CertifyComes, CyclesComes, SafeComes, T
 use Rattle.asm_lex.specs.declared.shape.Isa.TheVariants.{Chip8 as Chip8Words}
 use Rattle.vip_tools.specs.Code.{GameComes, Known, known_of, nothing_known}
 use Rattle.vip_tools.specs.Demo.{made_game}
+use Rattle.vip_tools.specs.Games.{Game}
 use Rattle.vip_tools.specs.Help.{help_text, version_text}
 use Rattle.vip_tools.specs.Judged.{Judged, Of, bind, each, judged, only}
 use Rattle.vip_tools.specs.Judged.Verdict.{Refused}
-use Rattle.vip_tools.specs.Opening.{CommandsCome, ScriptComes, rom_refusal}
+use Rattle.vip_tools.specs.Opening.{CommandsCome, GamesCome, ScriptComes, rom_refusal}
 use Rattle.vip_tools.specs.Outcome.{Ends, Outcome, Output, Shown, Writes, rom_text}
 use Rattle.vip_tools.specs.Sources.{AsmComes, CheckComes, DisComes, ListComes}
 use Rattle.vip_verbs.specs.Programs.{ProgramRunComes}
@@ -170,7 +177,7 @@ debug_ending v limit commands = ending_where v (place_after v limit commands (at
 
 -- how answers are shown, by what is known of the code
 abbrev pub looks_of : Known → TraceColumns → Looks
-looks_of known columns = record { columns = columns; labels = known.labels }
+looks_of known columns = record { columns = columns; origins = known.origins }
 
 -- the answers begin before the first move
 abbrev pub debugged_to : Looks → ℕ → ℕ → List Spoken → VipState → Outcome
@@ -188,6 +195,28 @@ ShowComes known e s keys limit (show.Commands text echo columns) =
 
 abbrev pub RunComes : RunRequest (List ℕ) → Judged Output
 RunComes run = bind (StartComes run.start) (λ s. ShowComes (known_in run.start) s.edition s.start run.keys run.limit run.show)
+
+-- ---- the games of a list
+
+-- SHA-256 of what is written, as one text, in hexadecimal digits
+abbrev pub text_digest : Option (List (List ℕ)) → List ℕ
+text_digest pieces = encode_lower (sha256 (joined (unwrap_or pieces [])))
+
+-- The line of a game, which is run from reset up to a limit: the digests of what `trace`, with `--at` and `--screen`, and `play` write of its run, how many
+-- dispatch points it has, and the report of its end.
+abbrev pub digest_line : ℕ → Game → List ℕ
+digest_line limit game =
+    let e = game.edition in
+    let s = Reset game.bytes in
+    text_digest (pieces_of (plain.Trace digested_columns) e s game.keys limit)
+    ++ (codes " "
+    ++ (text_digest (pieces_of plain.Pictures e s game.keys limit)
+    ++ (codes " "
+    ++ (decimal (count_of is_dispatch_event (events_shown e s game.keys limit)) ++ (codes " " ++ end_report limit (run_ending e s game.keys limit))))))
+
+-- a line each, in order
+abbrev pub DigestComes : ℕ → List ℕ → Judged Output
+DigestComes limit list = bind (GamesCome list) (λ games. Writes (flat_map (digest_line limit) games))
 
 -- ---- two boards that are joined
 
@@ -218,6 +247,7 @@ own_text (own.Source text) = built_in_text text
 own_text own.Bounds = bounds_table
 own_text (own.Help verb) = help_text verb
 own_text own.Version = version_text
+own_text (own.Why words) = why_line words
 
 -- ---- a text that is made of a file
 
@@ -227,6 +257,7 @@ TextVerbComes (text.Check name isa) source = CheckComes isa name source
 TextVerbComes (text.List isa) source = ListComes isa source
 TextVerbComes (text.Dis place) bytes = DisComes place.isa place.address bytes
 TextVerbComes (text.Timing entry p k) source = TimingComes source entry p k
+TextVerbComes (text.Digest limit) list = DigestComes limit list
 
 -- ---- a request
 

@@ -1,6 +1,7 @@
 -- A verb that is ready: what it comes to, and what its work answers.
-use Rattle.std.specs.Prelude.{◌≡◌, ◌≤◌, ℕ, List, [], ◌∷◌, Option, Some, None, Result, Ok, Err, Vec, length}
+use Rattle.std.specs.Prelude.{◌≡◌, ◌≤◌, ℕ, List, [], ◌∷◌, ◌++◌, Option, Some, None, Result, Ok, Err, Vec, length, codes, decimal}
 use Rattle.std.specs.declared.alloc.Global.{Global}
+use Rattle.hex.specs.Hex.{encode_lower}
 use Rattle.machine.specs.Keys.{Event as KeyEvent}
 use Rattle.asm_listing.specs.declared.report_text.CheckText.{CheckText}
 use Rattle.vip_board.specs.Seen.{Seen}
@@ -16,6 +17,7 @@ use Rattle.vip_relation.specs.Meets.{HasStopped}
 use Rattle.vip_relation.specs.State.{Start, VipState, begun, events_to}
 use Rattle.vip_show.specs.Answers.{run_trace, run_pictures, run_summary}
 use Rattle.vip_show.specs.Endings.{ending_of}
+use Rattle.vip_show.specs.declared.digests.Digests.{Digests}
 use Rattle.vip_show.specs.Profile.{profile_pieces}
 use Rattle.vip_show.specs.StateOutput.{saved_file}
 use Rattle.vip_text.specs.Endings.{Ending}
@@ -36,7 +38,7 @@ use Rattle.vip_tools.specs.Judged.Cause.{Elsewhere, Memory}
 use Rattle.vip_tools.specs.Judged.Verdict.{Given, Refused}
 use Rattle.vip_tools.specs.Outcome.{Outcome, Output, Shown}
 use Rattle.vip_verbs.specs.Outcome.{HasOutcome, debugged_to, limit_from, linked, linked_after, ran, ran_with, saved_pieces}
-use Rattle.vip_verbs.specs.Programs.{IsBegun, program_debugged, program_pictured, program_traced}
+use Rattle.vip_verbs.specs.Programs.{IsBegun, program_debugged, program_pictured, program_profiled, program_traced}
 use Rattle.vip_verbs.specs.declared.prepared.Prepared.{Prepared}
 use Rattle.vip_verbs.specs.declared.prepared.Prepared.TheVariants.{Run, Program, Link, Text, Checked}
 use Rattle.vip_verbs.specs.declared.prepared.ReadyProgramShow.{ReadyProgramShow}
@@ -61,9 +63,10 @@ shown_as (show.Summary number) v limit = ran limit (run_summary number v limit) 
 
 -- a program that is shown so
 abbrev pub program_shown_as : ReadyProgramShow → Seen → ℕ → Outcome
-program_shown_as (program.Trace labels) board limit = program_traced labels limit board
+program_shown_as (program.Trace origins) board limit = program_traced origins limit board
 program_shown_as program.Pictures board limit = program_pictured limit board
-program_shown_as (program.Commands commands labels) board limit = program_debugged labels commands limit board
+program_shown_as (program.Profile memory) board limit = program_profiled limit board
+program_shown_as (program.Commands commands origins) board limit = program_debugged origins commands limit board
 
 -- what a verb that is ready comes to
 abbrev pub outcome_of : Prepared → Outcome
@@ -100,6 +103,12 @@ IsReady (Checked told) = Unit {0}
 abbrev pub PrepareAnswers : Judged Output → Result Prepared Refusal → Type 0
 PrepareAnswers J (Ok p) = IsReady p × J (outcome_of p)
 PrepareAnswers J (Err refusal) = RefusedBy J refusal
+
+-- the line of a run up to a limit of which this is told
+abbrev pub told_line : ℕ → Digests → List ℕ
+told_line limit digests =
+    encode_lower digests.trace
+    ++ (codes " " ++ (encode_lower digests.pictures ++ (codes " " ++ (decimal digests.points ++ (codes " " ++ ended_report (Ran limit digests.end))))))
 
 -- a text is ready
 abbrev pub texted : Result (Vec ℕ Global) Refusal → Result Prepared Refusal

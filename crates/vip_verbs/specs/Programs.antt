@@ -1,6 +1,7 @@
--- What `trace`, `play` and `debug` of a program come to. No ROM of the interpreter plays a part, so none is compared with its source.
+-- What `trace`, `play`, `profile` and `debug` of a program come to. No ROM of the interpreter plays a part, so none is compared with its source.
 use Rattle.std.specs.Prelude.{◌≡◌, ℕ, List, [], Option, Result, Ok, Err}
 use Rattle.machine.specs.Keys.{Event as KeyEvent}
+use Rattle.asm_core.specs.Origins.{Origins}
 use Rattle.vip_board.specs.Seen.{Seen}
 use Rattle.vip_board.specs.Shown.{HasPictures}
 use Rattle.vip_words.specs.Spoken.{Spoken}
@@ -8,6 +9,7 @@ use Rattle.vip_words.specs.declared.debug_commands.Speaks.TheVariants.{Machine a
 use Rattle.vip_debug.specs.Programs.{program_written, machine_with}
 use Rattle.vip_cpu.specs.declared.cpu.Phase.TheVariants.{Boundary}
 use Rattle.vip_outside.specs.declared.sink.Failed.{Failed}
+use Rattle.vip_program.specs.Instructions.{program_profile}
 use Rattle.vip_program.specs.Program.{started}
 use Rattle.vip_program.specs.Pictures.{pictured}
 use Rattle.vip_program.specs.Trace.{end_at, last_machine, program_trace}
@@ -56,22 +58,26 @@ ProgramComes memory rom ram keys outcome = bind (ScriptComes keys) (λ script. E
 abbrev pub program_ran : ℕ → List (List ℕ) → ProgramEnd → Outcome
 program_ran limit pieces end = Shown pieces Done (program_report limit end)
 
-abbrev pub program_traced : List (ℕ × List ℕ) → ℕ → Seen → Outcome
-program_traced labels limit board = program_ran limit (program_trace labels board limit) (ended_at limit board)
+abbrev pub program_traced : Origins → ℕ → Seen → Outcome
+program_traced origins limit board = program_ran limit (program_trace origins board limit) (ended_at limit board)
 
 abbrev pub program_pictured : ℕ → Seen → Outcome
 program_pictured limit board = program_ran limit (pictured board limit) (ended_at limit board)
 
+abbrev pub program_profiled : ℕ → Seen → Outcome
+program_profiled limit board = program_ran limit (program_profile board limit) (ended_at limit board)
+
 -- the answers of the debugger's commands; it ends where they leave the board
-abbrev pub program_debugged : List (ℕ × List ℕ) → List Spoken → ℕ → Seen → Outcome
-program_debugged labels commands limit board = program_ran limit (program_written labels board limit commands) (end_at (machine_with board limit commands))
+abbrev pub program_debugged : Origins → List Spoken → ℕ → Seen → Outcome
+program_debugged origins commands limit board = program_ran limit (program_written origins board limit commands) (end_at (machine_with board limit commands))
 
 -- Under the debugger it comes to the first fault of the commands, or else to what their answers come to.
 abbrev pub ProgramShowComes : Known → AskedMemory → List ℕ → List ℕ → Option (List ℕ) → ℕ → ProgramShow (List ℕ) → Judged Output
-ProgramShowComes known memory rom ram keys limit show.Trace = ProgramComes memory rom ram keys (program_traced known.labels limit)
+ProgramShowComes known memory rom ram keys limit show.Trace = ProgramComes memory rom ram keys (program_traced known.origins limit)
 ProgramShowComes known memory rom ram keys limit show.Pictures = ProgramComes memory rom ram keys (program_pictured limit)
+ProgramShowComes known memory rom ram keys limit show.Profile = ProgramComes memory rom ram keys (program_profiled limit)
 ProgramShowComes known memory rom ram keys limit (show.Commands text echo) =
-    bind (CommandsCome Processor known.names echo limit text) (λ commands. ProgramComes memory rom ram keys (program_debugged known.labels commands limit))
+    bind (CommandsCome Processor known.names echo limit text) (λ commands. ProgramComes memory rom ram keys (program_debugged known.origins commands limit))
 
 -- its bytes are those that its code gives
 abbrev pub ProgramRunComes : ProgramRequest (List ℕ) → Judged Output

@@ -2,7 +2,8 @@
 //! (`vip_relation`, `vip_show`, `vip_debug`), on the board that runs any program (`vip_program`), on the law that each built-in source gives its ROM
 //! (`chip8_source`), on two boards that are joined (`vip_link`), and on `vip_tools`, which reads the files and does the work of the verbs that run no board.
 //! The layer above may rely on this: the work of a verb comes to its output, its end or its refusal as `specs/Outcome.antt` says by the contents of the
-//! files, each piece by one put, up to the first put that fails; and no memory is taken once a run begins.
+//! files, each piece by one put, up to the first put that fails; and no memory is taken once a run begins, but for the runs of `digest`, which are made while it
+//! is opened: what is ready then is their text.
 //!
 //! ```text
 //!     contents ──┬──▶ commands, key script ──▶ vip_relation ──▶ vip_show, vip_debug ────┬──▶ out
@@ -12,6 +13,7 @@
 //! ```
 #![tactic(auto)]
 
+mod digest;
 mod linked;
 mod opening;
 mod prepared;

@@ -149,7 +149,7 @@ fn make_ready<'a>(
             echo,
             columns,
         } => {
-            let Marks { names, labels } = marks;
+            let Marks { names, origins } = marks;
             let commands = read_debugging(
                 alloc,
                 Speaks::Chip8,
@@ -160,7 +160,7 @@ fn make_ready<'a>(
             )?;
             let looks = Looks {
                 columns: *columns,
-                labels,
+                origins,
             };
             Ok(ReadyShow::Commands { commands, looks })
         }

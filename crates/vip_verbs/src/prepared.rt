@@ -5,12 +5,13 @@ ghost use Rattle.vip_verbs.specs.Prepared.{IsReady, PerformAnswers, outcome_of};
 use crate::linked::run_link;
 use crate::program::perform_program;
 use crate::work::{perform_run, put_text, put_told};
-use asm_core::Labels;
+use asm_core::Origins;
 use asm_listing::CheckText;
 use vip_board::Board;
 use vip_debug::Looks;
 use vip_link::Link;
 use vip_outside::Sink;
+use vip_program::ProgramProfile;
 use vip_relation::Run;
 use vip_show::Profile;
 use vip_text::{Limit, TraceColumns};
@@ -65,12 +66,17 @@ pub enum ReadyShow {
 /// What is shown of a run of a program for the processor, with what it needs.
 #[derive(Drop)]
 pub enum ReadyProgramShow {
-    /// A line for each move or stretch of moves, behind those of these labels.
-    Trace(Labels),
+    /// A line for each move or stretch of moves, behind those of the labels of this source.
+    Trace(Origins),
     /// Each finished picture.
     Pictures,
-    /// The answers to these commands of the debugger, with these labels.
-    Commands { commands: Commands, labels: Labels },
+    /// Where its time goes, by its instructions, with the memory for it.
+    Profile(ProgramProfile),
+    /// The answers to these commands of the debugger, with the labels of this source.
+    Commands {
+        commands: Commands,
+        origins: Origins,
+    },
 }
 
 /// Does the work of a verb that is ready: its output goes out piece by piece, each by one put, up to the first put that fails. A run that is to be
@@ -85,7 +91,7 @@ pub fn perform<O: Sink>(prepared: Prepared, out: &mut O) -> Result<Ended, Perfor
             mut board,
             limit,
             show,
-        } => perform_program(&mut board, limit, &show, out),
+        } => perform_program(&mut board, limit, show, out),
         Prepared::Link {
             mut link,
             number,

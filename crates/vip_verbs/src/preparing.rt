@@ -11,6 +11,7 @@ ghost use Rattle.vip_tools.specs.Work.{TextAnswers};
 ghost use Rattle.vip_verbs.specs.Outcome.{built_in_text, own_text, HasOutcome, TextVerbComes};
 ghost use Rattle.vip_verbs.specs.Prepared.{OpenAnswers, PrepareAnswers, checked, texted};
 
+use crate::digest::digest;
 use crate::linked::open_link;
 use crate::opening::open_run;
 use crate::prepared::Prepared;
@@ -22,7 +23,7 @@ use vip_link::{receiver_text, sender_text};
 use vip_outside::Files;
 use vip_tools::{
     Refusal, asm, bounds, certify, check, cycles, dis, game, help, list, load, safe, source,
-    timing, version,
+    timing, version, why,
 };
 use vip_words::{BuiltIn, Code, OwnText, Request, TextVerb};
 
@@ -102,6 +103,7 @@ fn own_text<'a>(alloc: Global, text: OwnText) -> Result<Vec<u8>, Refusal<'a>>
         OwnText::Bounds => bounds(alloc),
         OwnText::Help(verb) => help(alloc, verb),
         OwnText::Version => version(alloc),
+        OwnText::Why(words) => why(alloc, words.as_slice()),
     }
 }
 
@@ -116,6 +118,7 @@ fn open_text<'a>(alloc: Global, verb: TextVerb, file: &[u8]) -> Result<Prepared,
         TextVerb::List { isa } => text(list(alloc, isa, file)),
         TextVerb::Dis { place } => text(dis(alloc, place.isa(), file, place.address())),
         TextVerb::Timing { entry, p, k } => text(timing(alloc, file, entry, p, k)),
+        TextVerb::Digest { limit } => text(digest(alloc, limit, file)),
     }
 }
 

@@ -17,7 +17,9 @@ use std::alloc::Global;
 use vip_board::Board;
 use vip_debug::run_program_commands;
 use vip_outside::{Failed, Sink};
-use vip_program::{Memory, ProgramEnd, show_pictures, show_trace, start_program};
+use vip_program::{
+    Memory, ProgramEnd, ProgramProfile, show_pictures, show_profile, show_trace, start_program,
+};
 use vip_text::{Limit, RunEnd};
 use vip_tools::{
     Ended, Image, Marks, PerformFault, Refusal, marked_program, read_debugging, read_keys,
@@ -62,10 +64,11 @@ fn make_ready<'a>(
     ensures { ProgramShowReady (marked marks) limit (map_program_show (λ bytes. bytes.items) show.now) result }
 {
     match show {
-        ProgramShow::Trace => Ok(ReadyProgramShow::Trace(marks.labels)),
+        ProgramShow::Trace => Ok(ReadyProgramShow::Trace(marks.origins)),
         ProgramShow::Pictures => Ok(ReadyProgramShow::Pictures),
+        ProgramShow::Profile => Ok(ReadyProgramShow::Profile(ProgramProfile::new(alloc)?)),
         ProgramShow::Commands { file, echo } => {
-            let Marks { names, labels } = marks;
+            let Marks { names, origins } = marks;
             let commands = read_debugging(
                 alloc,
                 Speaks::Machine,
@@ -74,7 +77,7 @@ fn make_ready<'a>(
                 file.as_slice(),
                 limit,
             )?;
-            Ok(ReadyProgramShow::Commands { commands, labels })
+            Ok(ReadyProgramShow::Commands { commands, origins })
         }
     }
 }
@@ -111,20 +114,23 @@ fn program_ran(limit: Limit, end: Result<ProgramEnd, Failed>) -> Result<Ended, P
 pub(crate) fn perform_program<O: Sink>(
     board: &mut Board,
     limit: Limit,
-    show: &ReadyProgramShow,
+    show: ReadyProgramShow,
     out: &mut O,
 ) -> Result<Ended, PerformFault>
-    requires { IsReady (ready.Program board.old limit show.now) }
-    ensures { PerformAnswers (outcome_of (ready.Program board.old limit show.now)) (O.meaning out.old) (O.meaning out.new) result }
+    requires { IsReady (ready.Program board.old limit show) }
+    ensures { PerformAnswers (outcome_of (ready.Program board.old limit show)) (O.meaning out.old) (O.meaning out.new) result }
 {
     match show {
-        ReadyProgramShow::Trace(labels) => {
-            program_ran(limit, show_trace(board, labels, limit, out))
+        ReadyProgramShow::Trace(origins) => {
+            program_ran(limit, show_trace(board, &origins, limit, out))
         }
         ReadyProgramShow::Pictures => program_ran(limit, show_pictures(board, limit, out)),
-        ReadyProgramShow::Commands { commands, labels } => program_ran(
+        ReadyProgramShow::Profile(mut profile) => {
+            program_ran(limit, show_profile(board, limit, &mut profile, out))
+        }
+        ReadyProgramShow::Commands { commands, origins } => program_ran(
             limit,
-            run_program_commands(board, commands, labels, limit, out),
+            run_program_commands(board, &commands, &origins, limit, out),
         ),
     }
 }

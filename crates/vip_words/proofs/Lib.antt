@@ -4,8 +4,10 @@ mod Asked
 mod Ends
 mod Flags
 mod Known
+mod LoopLemmas
 mod Parses
 mod Rows
+mod RuleLemmas
 mod Shown
 mod Steps
 mod Walks

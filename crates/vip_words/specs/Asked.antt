@@ -13,7 +13,7 @@ use Rattle.vip_text.specs.declared.trace.TraceColumns.{TraceColumns}
 use Rattle.vip_words.specs.Numbers.{Place, most_moves}
 use Rattle.vip_words.specs.Request.{Asked}
 use Rattle.vip_words.specs.Rules.{Given, Word, given_by}
-use Rattle.vip_words.specs.Table.{is_alone, places_of, row, verb_of}
+use Rattle.vip_words.specs.Table.{is_alone, is_why, places_of, row, verb_of}
 use Rattle.vip_words.specs.declared.flag.Flag.{Flag}
 use Rattle.vip_words.specs.declared.flag.Flag.TheVariants as flag
 use Rattle.vip_words.specs.declared.request.BuiltIn.{BuiltIn}
@@ -146,6 +146,10 @@ abbrev pub play_by : List Word → Given → Option Asked
 play_by (file ∷ cycles ∷ []) given = either_by file cycles given (show.Plain Pictures) program.Pictures
 play_by _ given = None
 
+abbrev pub profile_by : List Word → Given → Option Asked
+profile_by (file ∷ cycles ∷ []) given = either_by file cycles given (show.Plain Profile) program.Profile
+profile_by _ given = None
+
 -- FILE CYCLES COMMANDS
 abbrev pub debug_by : List Word → Given → Option Asked
 debug_by (file ∷ cycles ∷ commands ∷ []) given =
@@ -172,6 +176,11 @@ demo_by (number ∷ cycles ∷ []) =
     (λ n. option_map (λ c. request.Run (record { start = start.Made (Demo n); keys = None; limit = c; show = show.Plain (Summary n) })) (cycles_of cycles))
     (seed_of number)
 demo_by _ = None
+
+-- FILE CYCLES, where the file is a list of games
+abbrev pub digest_by : List Word → Option Asked
+digest_by (file ∷ cycles ∷ []) = option_map (λ n. request.Text (text.Digest n) file) (cycles_of cycles)
+digest_by _ = None
 
 -- FILE MOVES NUMBER
 abbrev pub link_by : List Word → Option Asked
@@ -245,9 +254,10 @@ asked_of_verb verb.Trace given = trace_by given.positional given
 asked_of_verb verb.Play given = play_by given.positional given
 asked_of_verb verb.Debug given = debug_by given.positional given
 asked_of_verb verb.Save given = shown_by (show.Plain State) given.positional given
-asked_of_verb verb.Profile given = shown_by (show.Plain Profile) given.positional given
+asked_of_verb verb.Profile given = profile_by given.positional given
 asked_of_verb verb.Resume given = resume_by given.positional given
 asked_of_verb verb.Demo given = demo_by given.positional
+asked_of_verb verb.Digest given = digest_by given.positional
 asked_of_verb verb.Link given = link_by given.positional
 asked_of_verb verb.Asm given = option_map (λ file. request.Text (text.Asm (isa_by (given.has flag.Chip8)) (given.has flag.Raw)) file) (file_by given.positional)
 asked_of_verb verb.Check given = check_by (isa_by (given.has flag.Chip8)) given.positional
@@ -261,11 +271,19 @@ asked_of_verb verb.Safe given = safe_by given.positional given
 asked_of_verb verb.Certify given = option_map (λ game. request.Certify (code_by (given.has flag.Asm) game) (edition_by (given.has flag.Tall))) (file_by given.positional)
 asked_of_verb verb.Help given = help_by given.positional
 asked_of_verb verb.Version given = version_by given.positional
+asked_of_verb verb.Why given = None
+
+-- what is made of these words
+abbrev pub why_of : List Word → Asked
+why_of words = request.Own (own.Why words)
+
+-- What a verb asks for with the words behind it. `why` asks for what is made of them, whatever they are.
+abbrev pub asked_behind : List Word → Verb → Option Asked
+asked_behind words verb =
+    if is_why verb then Some (why_of words)
+    else option_and_then (asked_of_verb verb) (given_by (places_of (row verb) (is_alone words)) (row verb).options words)
 
 -- what the words ask for, the verb first, or nothing where they are refused
 abbrev pub asked_by : List Word → Option Asked
 asked_by [] = None
-asked_by (word ∷ words) =
-    option_and_then
-    (λ verb. option_and_then (asked_of_verb verb) (given_by (places_of (row verb) (is_alone words)) (row verb).options words))
-    (verb_of word)
+asked_by (word ∷ words) = option_and_then (asked_behind words) (verb_of word)

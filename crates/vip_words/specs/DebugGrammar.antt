@@ -8,8 +8,7 @@ use Rattle.vip_byte.specs.declared.number.NumFault.{NumFault}
 use Rattle.vip_byte.specs.declared.number.NumFault.TheVariants.{TooLarge}
 use Rattle.vip_byte.specs.Number.{decimal_number, hex_number}
 use Rattle.vip_byte.specs.Reading.{Format, read, ◌>>=◌}
-use Rattle.vip_byte.specs.Text.{newline, words}
-use Rattle.vip_keypad.specs.KeyScript.{is_silent}
+use Rattle.vip_byte.specs.Text.{is_silent, newline, words}
 use Rattle.vip_words.specs.declared.debug_commands.Command.{Command}
 use Rattle.vip_words.specs.declared.debug_commands.Command.TheVariants.{Runs, Shows, Seeks, Tells}
 use Rattle.vip_words.specs.declared.debug_commands.Running.TheVariants.{Step, To, At, Watch}

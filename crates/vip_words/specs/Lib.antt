@@ -1,5 +1,6 @@
 pub mod Asked
 pub mod Arguments
+pub mod Broken
 pub mod Command
 pub mod Given
 pub mod Numbers
@@ -9,4 +10,6 @@ pub mod Table
 pub mod Usage
 pub mod DebugGrammar
 pub mod FaultNames
+pub mod Spelled
 pub mod Spoken
+pub mod Why

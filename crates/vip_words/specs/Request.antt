@@ -37,6 +37,7 @@ module _ {A B : Type 0} (f : A → B) where
   abbrev pub map_program_show : ProgramShow A → ProgramShow B
   map_program_show program.Trace = program.Trace
   map_program_show program.Pictures = program.Pictures
+  map_program_show program.Profile = program.Profile
   map_program_show (program.Commands file echo) = program.Commands (f file) echo
 
   abbrev pub map_program : ProgramRequest A → ProgramRequest B

@@ -42,7 +42,7 @@ row verb.Save =
     made_row (codes "save") (codes "FILE" ∷ codes "CYCLES" ∷ []) false (keys_option ∷ map flag_option (flag.Tall ∷ flag.State ∷ flag.Asm ∷ []))
     (codes "the state of the machine as a file") (codes "vip save maze.ch8 300000 > maze.state") (codes "FORMATS.md, A machine state")
 row verb.Profile =
-    made_row (codes "profile") (codes "FILE" ∷ codes "CYCLES" ∷ []) false (keys_option ∷ map flag_option (flag.Tall ∷ flag.State ∷ flag.Asm ∷ []))
+    made_row (codes "profile") (codes "FILE" ∷ codes "CYCLES" ∷ []) false (keys_option ∷ map flag_option (flag.Tall ∷ flag.State ∷ flag.Asm ∷ flag.Rom ∷ flag.Ram ∷ []))
     (codes "where the time of a run goes") (codes "vip profile maze.ch8 1000000") (codes "FORMATS.md, A profile")
 row verb.Resume =
     made_row (codes "resume") (codes "STATE" ∷ codes "CYCLES" ∷ []) false (keys_option ∷ map flag_option (flag.At ∷ []))
@@ -50,6 +50,9 @@ row verb.Resume =
 row verb.Demo =
     made_row (codes "demo") (codes "NUMBER" ∷ codes "CYCLES" ∷ []) false ([])
     (codes "the run of a random game in one line") (codes "vip demo 0 1000000") (codes "FORMATS.md, A demonstration and its summary")
+row verb.Digest =
+    made_row (codes "digest") (codes "FILE" ∷ codes "CYCLES" ∷ []) false ([])
+    (codes "digests of the runs of many games") (codes "vip digest three.games 20000") (codes "FORMATS.md, A list of games")
 row verb.Link =
     made_row (codes "link") (codes "FILE" ∷ codes "MOVES" ∷ codes "NUMBER" ∷ []) false ([])
     (codes "a message from one board to another") (codes "vip link sum.keys 500000 7") (codes "FORMATS.md, Two boards")
@@ -89,6 +92,14 @@ row verb.Help =
 row verb.Version =
     made_row (codes "version") ([]) false ([])
     (codes "the name and the version") (codes "vip version") (codes "COMMANDS.md, The words")
+row verb.Why =
+    made_row (codes "why") (codes "WORD.." ∷ []) true ([])
+    (codes "why words are refused, or what would be done") (codes "vip why trace ball.ch8 --chip8") (codes "COMMANDS.md, The words")
+
+-- the verb whose words are explained, and not judged
+abbrev pub is_why : Verb → Bool
+is_why verb.Why = true
+is_why _ = false
 
 -- ---- what the page of a verb says of the files that it takes, line by line
 
@@ -124,7 +135,7 @@ notes verb.Trace = either_lines
 notes verb.Play = either_lines
 notes verb.Debug = either_lines ++ command_lines
 notes verb.Save = codes "FILE is a game for the interpreter, with --state a saved state, and with --asm a" ∷ codes "game's source in words of CHIP-8." ∷ []
-notes verb.Profile = codes "FILE is a game for the interpreter, with --state a saved state, and with --asm a" ∷ codes "game's source in words of CHIP-8." ∷ []
+notes verb.Profile = either_lines
 notes verb.Safe = codes "GAME is a game for the interpreter, and with --asm its source in words of CHIP-8." ∷ []
 notes verb.Certify = codes "GAME is a game for the interpreter, and with --asm its source in words of CHIP-8." ∷ []
 notes _ = []
@@ -133,7 +144,7 @@ notes _ = []
 
 abbrev pub every_verb : List Verb
 every_verb =
-    verb.Trace ∷ verb.Play ∷ verb.Debug ∷ verb.Save ∷ verb.Profile ∷ verb.Resume ∷ verb.Demo ∷ verb.Link ∷ verb.Asm ∷ verb.Check ∷ verb.List ∷ verb.Dis ∷ verb.Source ∷ verb.Bounds ∷ verb.Cycles ∷ verb.Timing ∷ verb.Safe ∷ verb.Certify ∷ verb.Help ∷ verb.Version ∷ []
+    verb.Trace ∷ verb.Play ∷ verb.Debug ∷ verb.Save ∷ verb.Profile ∷ verb.Resume ∷ verb.Demo ∷ verb.Digest ∷ verb.Link ∷ verb.Asm ∷ verb.Check ∷ verb.List ∷ verb.Dis ∷ verb.Source ∷ verb.Bounds ∷ verb.Cycles ∷ verb.Timing ∷ verb.Safe ∷ verb.Certify ∷ verb.Help ∷ verb.Version ∷ verb.Why ∷ []
 
 -- the verb that a word spells
 abbrev pub verb_of : Word → Option Verb

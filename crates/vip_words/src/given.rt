@@ -63,8 +63,8 @@ impl Given<'_> {
     }
 }
 
-// Neither empty nor begun by `-`.
-fn is_plain(word: &str) -> bool
+/// Neither empty nor begun by `-`.
+pub fn is_plain(word: &str) -> bool
     ensures { result ≡ is_plain word.now }
 {
     !matches!(word.as_bytes().first(), None | Some(b'-'))
@@ -76,7 +76,8 @@ fn is_among(options: &[&str], word: &str) -> bool
     options.iter().any(|option| word == *option)
 }
 
-fn is_known(options: &[&str], word: &str) -> bool
+/// Plain, or one of these options.
+pub fn is_known(options: &[&str], word: &str) -> bool
     ensures { result ≡ is_known (map (λ option. option.now) options.now) word.now }
 {
     is_plain(word) || is_among(options, word)

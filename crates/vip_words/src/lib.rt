@@ -3,13 +3,17 @@
 //! with key scripts, on `chip8_lang` for the name of an edition, on `vip_text` for the limit of a run and what a trace shows besides the states, and on
 //! `asm_lex` for the name of an instruction set and its addresses; it reads no file and knows no board. The layer above may rely on `read_words`: it answers
 //! exactly the request that the rules of `specs/Rules.antt`, `specs/Table.antt` and `specs/Asked.antt` read in the words, and refuses exactly the words in
-//! which they read none. It may rely on `read_commands`: its answer is the list of the commands that a text says, in order, or its first fault, exactly as
+//! which they read none; on `first_broken`: it names the first rule of `specs/Broken.antt` that words break, which is one exactly where they are refused
+//! (`refused_by_rule`); and on `why_line` and `remark`, which say that, or what is asked for, as `specs/Why.antt` does. It may rely on `read_commands`: its answer is the list of the commands that a text says, in order, or its first fault, exactly as
 //! `specs/DebugGrammar.antt` says. Want of memory is the one other answer of each. The rules are this project's profile (`docs/COMMANDS.md`).
 //!
 //! ```text
 //!     words ──▶ the verb's usage ──▶ each word is plain or an option of it ──▶ clap ──▶ its numbers ──▶ Request
 //!               (table.rt)           (given.rt)                             (command.rt)  (request.rt)
 //! ```
+//!
+//! Behind `why` the words aren't read so: they are kept, and what is made of them is its text (`src/why.rt`). Of words that are refused the first broken rule is
+//! found by what `clap` never tells (`src/broken.rt`).
 //!
 //! | Rule | Kept by |
 //! |---|---|
@@ -36,6 +40,7 @@
 //! `specs/Rules.antt`) and one more argument of the command (`src/command.rt`): what the words give is a set of flags.
 #![tactic(auto)]
 
+mod broken;
 mod command;
 mod debug_commands;
 mod debug_line;
@@ -45,7 +50,9 @@ mod moves;
 mod place;
 mod request;
 mod table;
+mod why;
 
+pub use broken::{Broken, Due, Rule, first_broken, refused_by_rule};
 pub use debug_commands::{
     Command, CommandCause, CommandFault, Commands, Running, Seeking, Showing, Speaks,
     SpokenCommand, Telling, read_commands,
@@ -55,6 +62,7 @@ pub use moves::Moves;
 pub use place::Place;
 pub use request::{
     BuiltIn, Code, Entry, EntryName, FileName, MadeGame, Memory, OwnText, PlainShow,
-    ProgramRequest, ProgramShow, Request, RunRequest, Show, Start, TextVerb, read_words,
+    ProgramRequest, ProgramShow, Request, RunRequest, Show, Start, TextVerb, Words, read_words,
 };
 pub use table::{Row, VERBS, Verb, about, with_value};
+pub use why::{remark, why_line};

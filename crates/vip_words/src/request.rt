@@ -1,7 +1,7 @@
 //! What the words of a command line ask for.
 
-ghost use Rattle.std.specs.Prelude.{◌≡◌, IfOk, IsErrOf, None, Some, map, option_map, string_bytes};
-ghost use Rattle.vip_words.specs.Asked.{asked_by, asked_of_verb, built_in_by, code_by, columns_by, edition_by, either_by, entry_of, is_mixed, is_program, isa_by, name_or, number_of, program_by, register_of, run_by, seed_of, start_by};
+ghost use Rattle.std.specs.Prelude.{◌≡◌, IfErr, IfOk, IsErrOf, None, Some, map, option_map, string_bytes};
+ghost use Rattle.vip_words.specs.Asked.{asked_by, asked_of_verb, built_in_by, code_by, columns_by, edition_by, either_by, entry_of, is_mixed, is_program, isa_by, name_or, number_of, program_by, register_of, run_by, seed_of, start_by, why_of};
 ghost use Rattle.vip_words.specs.Given.{seen_given};
 ghost use Rattle.vip_words.specs.Request.{asked_of, code_of, program_show_of, show_of, start_of};
 ghost use Rattle.vip_words.specs.declared.table.Verb.TheVariants as verb;
@@ -91,10 +91,14 @@ pub enum TextVerb {
         /// The number of the counter register.
         k: u8,
     },
+    /// Run each game of a list up to a machine cycle, and tell the digests of what is shown of it.
+    Digest {
+        limit: Limit,
+    },
 }
 
 /// A text of the program's own.
-#[derive(Clone, Copy)]
+#[derive(Drop)]
 pub enum OwnText {
     /// A source that the program has in it.
     Source(BuiltIn),
@@ -104,6 +108,44 @@ pub enum OwnText {
     Help(Option<Verb>),
     /// The name and the version of the program.
     Version,
+    /// What is made of these words.
+    Why(Words),
+}
+
+/// Words of a command line. A contract sees the bytes of each.
+#[derive(Drop)]
+pub struct Words {
+    words: Vec<String>,
+}
+
+impl Model for Words {
+    ghost use Rattle.std.specs.Prelude.{ℕ, List, map, string_bytes};
+
+    ghost Value = { List (List ℕ) };
+
+    ghost view = { λ words. map string_bytes words.words.items };
+}
+
+impl Words {
+    ghost use Rattle.std.specs.Prelude.{◌≡◌, IfOk, map, string_bytes};
+
+    /// A copy of some words. It fails only where memory is refused.
+    fn of(alloc: Global, words: &[String]) -> Result<Words, AllocError>
+        ensures { IfOk result (λ copy. copy ≡ map string_bytes words.now) }
+    {
+        let mut copies = Vec::new(alloc);
+        for word in words {
+            copies.push(String::from_str(alloc, word.as_str())?)?;
+        }
+        Ok(Words { words: copies })
+    }
+
+    /// The words.
+    pub fn as_slice(&self) -> &[String]
+        ensures { map string_bytes result.now ≡ self.now }
+    {
+        self.words.as_slice()
+    }
 }
 
 /// The name of a file, which stays beside its content.
@@ -223,6 +265,8 @@ pub enum ProgramShow<N> {
     Trace,
     /// Each finished picture.
     Pictures,
+    /// Where its time goes, by its instructions.
+    Profile,
     /// The answers to the debugger's commands; and whether each command stands before its answer.
     Commands { file: N, echo: bool },
 }
@@ -263,7 +307,7 @@ pub enum BuiltIn {
 }
 
 /// The number of a demonstration game or of a schedule.
-fn read_seed(word: &str) -> Option<u32>
+pub fn read_seed(word: &str) -> Option<u32>
     ensures { result ≡ seed_of word.now }
 {
     let number = read_decimal(word.as_bytes(), u32::MAX as u64).ok()?;
@@ -296,7 +340,7 @@ fn read_number(word: &[u8]) -> Option<u16>
 }
 
 /// Where a routine is entered: at a name, which it always is behind `:`, or else at an address.
-fn read_entry(word: &[u8]) -> Option<Entry>
+pub fn read_entry(word: &[u8]) -> Option<Entry>
     ensures { result ≡ entry_of word.now }
 {
     match word {
@@ -306,7 +350,7 @@ fn read_entry(word: &[u8]) -> Option<Entry>
 }
 
 /// The number of a register.
-fn read_register(word: &str) -> Option<u8>
+pub fn read_register(word: &str) -> Option<u8>
     ensures { result ≡ register_of word.now }
 {
     if word.len() != 1 {
@@ -324,7 +368,7 @@ fn edition_by(tall: bool) -> Edition
 }
 
 /// The instruction set CHIP-8 where it is asked for, and else that of the processor.
-fn isa_by(chip8: bool) -> Isa
+pub fn isa_by(chip8: bool) -> Isa
     ensures { result ≡ isa_by chip8 }
 {
     if chip8 { Isa::Chip8 } else { Isa::Cdp1802 }
@@ -505,7 +549,8 @@ fn profile_request<'a>(given: &Given<'a>) -> Option<Request<&'a str>>
     let Positional::Two(file, cycles) = given.positional else {
         return None;
     };
-    run_request(file, cycles, given, Show::Plain(PlainShow::Profile))
+    let show = Show::Plain(PlainShow::Profile);
+    either_request(file, cycles, given, show, ProgramShow::Profile)
 }
 
 /// The trace of a run from a saved state.
@@ -541,6 +586,19 @@ fn demo_request<'a>(given: &Given<'a>) -> Option<Request<&'a str>>
         limit,
         show: Show::Plain(PlainShow::Summary(number)),
     }))
+}
+
+fn digest_request<'a>(given: &Given<'a>) -> Option<Request<&'a str>>
+    ensures { option_map asked_of result ≡ asked_of_verb verb.Digest (seen_given given.now) }
+{
+    let Positional::Two(file, cycles) = given.positional else {
+        return None;
+    };
+    let limit = Limit::read(cycles.as_bytes())?;
+    Some(Request::Text {
+        verb: TextVerb::Digest { limit },
+        file,
+    })
 }
 
 fn link_request<'a>(given: &Given<'a>) -> Option<Request<&'a str>>
@@ -753,6 +811,7 @@ fn request_of<'a>(
         Verb::Profile => profile_request(given),
         Verb::Resume => resume_request(given),
         Verb::Demo => demo_request(given),
+        Verb::Digest => digest_request(given),
         Verb::Link => link_request(given),
         Verb::Asm => asm_request(given),
         Verb::List => list_request(given),
@@ -765,8 +824,21 @@ fn request_of<'a>(
         Verb::Certify => certify_request(given),
         Verb::Help => help_request(given),
         Verb::Version => version_request(given),
+        // (its words aren't read as those of the others)
+        Verb::Why => None,
     };
     Ok(request)
+}
+
+/// What is made of these words is asked for. It fails only where memory is refused.
+fn why_request<'a>(alloc: Global, words: &[String]) -> Result<Request<&'a str>, WordsFail>
+    ensures ok { IfOk result (λ request. asked_of request ≡ why_of (map string_bytes words.now)) }
+    ensures memory { IfErr result (λ fail. fail ≡ WordsFail.NoMemory) }
+{
+    match Words::of(alloc, words) {
+        Ok(words) => Ok(Request::Own(OwnText::Why(words))),
+        Err(_) => Err(WordsFail::NoMemory),
+    }
 }
 
 /// Reads the words of a command line, without the program's name. The answer is exactly the request that the rules read in them, and
@@ -781,6 +853,9 @@ pub fn read_words<'a>(alloc: Global, words: &'a [String]) -> Result<Request<&'a 
     let Some(verb) = Verb::of(word.as_str()) else {
         return Err(WordsFail::Refused);
     };
+    if verb.is_why() {
+        return why_request(alloc, &words[1..]);
+    }
     let usage = verb.row().usage(words.len() == 1);
     let given = match read_given(alloc, &usage, words) {
         Ok(given) => given,

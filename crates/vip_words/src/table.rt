@@ -3,7 +3,7 @@
 ghost use Rattle.std.specs.Prelude.{◌≡◌, ◌≤◌, IsTrue, bytes_eq, find, length, map};
 ghost use Rattle.std.specs.List.{list_all};
 ghost use Rattle.vip_words.specs.Rules.{is_option};
-ghost use Rattle.vip_words.specs.Table.{about, notes, places_of, row, verb_of, with_value};
+ghost use Rattle.vip_words.specs.Table.{about, is_why, notes, places_of, row, verb_of, with_value};
 
 /// What the program is asked to do.
 #[derive(Clone, Copy, Drop)]
@@ -15,6 +15,7 @@ pub enum Verb {
     Profile,
     Resume,
     Demo,
+    Digest,
     Link,
     Asm,
     Check,
@@ -28,10 +29,11 @@ pub enum Verb {
     Certify,
     Help,
     Version,
+    Why,
 }
 
 /// The verbs, in the order of their page.
-pub const VERBS: [Verb; 20] = [
+pub const VERBS: [Verb; 22] = [
     Verb::Trace,
     Verb::Play,
     Verb::Debug,
@@ -39,6 +41,7 @@ pub const VERBS: [Verb; 20] = [
     Verb::Profile,
     Verb::Resume,
     Verb::Demo,
+    Verb::Digest,
     Verb::Link,
     Verb::Asm,
     Verb::Check,
@@ -52,6 +55,7 @@ pub const VERBS: [Verb; 20] = [
     Verb::Certify,
     Verb::Help,
     Verb::Version,
+    Verb::Why,
 ];
 
 /// A row of the table: a verb, what may follow it, and what is said of it.
@@ -116,6 +120,13 @@ impl Verb {
         VERBS.iter().copied().find(|verb| word == verb.name())
     }
 
+    /// Whether it is the one whose words are explained, and not judged.
+    pub fn is_why(self) -> bool
+        ensures { result ≡ is_why self }
+    {
+        matches!(self, Verb::Why)
+    }
+
     /// Its row of the table.
     pub fn row(self) -> Row
         ensures { row_of result ≡ row self }
@@ -136,7 +147,7 @@ impl Verb {
         ensures { map (λ line. line.now) result.now ≡ notes self }
     {
         match self {
-            Verb::Trace | Verb::Play => &[
+            Verb::Trace | Verb::Play | Verb::Profile => &[
                 "FILE is a game for the interpreter, with --state a saved state, and with --rom or",
                 "--ram a program for the processor. With --asm it is a source: a game's in words",
                 "of CHIP-8, a program's in words of the processor.",
@@ -162,7 +173,7 @@ impl Verb {
                 "With --rom or --ram there are no dispatch points, and so no next, break, state,",
                 "screen and code.",
             ],
-            Verb::Save | Verb::Profile => &[
+            Verb::Save => &[
                 "FILE is a game for the interpreter, with --state a saved state, and with --asm a",
                 "game's source in words of CHIP-8.",
             ],
@@ -173,8 +184,8 @@ impl Verb {
         }
     }
 
-    // The verb, spelled as the user writes it.
-    fn name(self) -> &'static str
+    /// The verb, spelled as the user writes it.
+    pub fn name(self) -> &'static str
         ensures { result.now ≡ (row self).name }
     {
         match self {
@@ -185,6 +196,7 @@ impl Verb {
             Verb::Profile => "profile",
             Verb::Resume => "resume",
             Verb::Demo => "demo",
+            Verb::Digest => "digest",
             Verb::Link => "link",
             Verb::Asm => "asm",
             Verb::Check => "check",
@@ -198,6 +210,7 @@ impl Verb {
             Verb::Certify => "certify",
             Verb::Help => "help",
             Verb::Version => "version",
+            Verb::Why => "why",
         }
     }
 
@@ -207,7 +220,9 @@ impl Verb {
         ensures few { length result.now ≤ 4 }
     {
         match self {
-            Verb::Trace | Verb::Play | Verb::Save | Verb::Profile => &["FILE", "CYCLES"],
+            Verb::Trace | Verb::Play | Verb::Save | Verb::Profile | Verb::Digest => {
+                &["FILE", "CYCLES"]
+            }
             Verb::Debug => &["FILE", "CYCLES", "COMMANDS"],
             Verb::Resume => &["STATE", "CYCLES"],
             Verb::Demo => &["NUMBER", "CYCLES"],
@@ -219,6 +234,7 @@ impl Verb {
             Verb::Safe => &["GAME", "CERT"],
             Verb::Certify => &["GAME"],
             Verb::Help => &["VERB"],
+            Verb::Why => &["WORD.."],
             Verb::Source | Verb::Bounds | Verb::Version => &[],
         }
     }
@@ -227,7 +243,7 @@ impl Verb {
     fn may_stand_alone(self) -> bool
         ensures { result ≡ (row self).may_stand_alone }
     {
-        matches!(self, Verb::Help)
+        matches!(self, Verb::Help | Verb::Why)
     }
 
     // Its options, spelled as the user writes them.
@@ -240,19 +256,27 @@ impl Verb {
                 "--keys", "--at", "--screen", "--words", "--tall", "--state", "--asm", "--rom",
                 "--ram",
             ],
-            Verb::Play => &["--keys", "--tall", "--state", "--asm", "--rom", "--ram"],
+            Verb::Play | Verb::Profile => {
+                &["--keys", "--tall", "--state", "--asm", "--rom", "--ram"]
+            }
             Verb::Debug => &[
                 "--keys", "--words", "--tall", "--state", "--asm", "--echo", "--rom", "--ram",
             ],
-            Verb::Save | Verb::Profile => &["--keys", "--tall", "--state", "--asm"],
+            Verb::Save => &["--keys", "--tall", "--state", "--asm"],
             Verb::Resume => &["--keys", "--at"],
             Verb::Asm => &["--raw", "--chip8"],
             Verb::Check | Verb::List | Verb::Dis => &["--chip8"],
             Verb::Source => &["--tall", "--sender", "--receiver"],
             Verb::Cycles => &["--exits"],
             Verb::Safe | Verb::Certify => &["--tall", "--asm"],
-            Verb::Demo | Verb::Link | Verb::Bounds | Verb::Timing | Verb::Help | Verb::Version =>
-                &[],
+            Verb::Demo
+            | Verb::Digest
+            | Verb::Link
+            | Verb::Bounds
+            | Verb::Timing
+            | Verb::Help
+            | Verb::Version
+            | Verb::Why => &[],
         }
     }
 
@@ -268,6 +292,7 @@ impl Verb {
             Verb::Profile => "where the time of a run goes",
             Verb::Resume => "how a saved state goes on",
             Verb::Demo => "the run of a random game in one line",
+            Verb::Digest => "digests of the runs of many games",
             Verb::Link => "a message from one board to another",
             Verb::Asm => "the bytes of a source",
             Verb::Check => "every fault of a source",
@@ -281,6 +306,7 @@ impl Verb {
             Verb::Certify => "a certificate that a game never stops",
             Verb::Help => "all verbs, or one with its options and an example",
             Verb::Version => "the name and the version",
+            Verb::Why => "why words are refused, or what would be done",
         }
     }
 
@@ -296,6 +322,7 @@ impl Verb {
             Verb::Profile => "vip profile maze.ch8 1000000",
             Verb::Resume => "vip resume maze.state 600000",
             Verb::Demo => "vip demo 0 1000000",
+            Verb::Digest => "vip digest three.games 20000",
             Verb::Link => "vip link sum.keys 500000 7",
             Verb::Asm => "vip asm pen.asm --chip8 --raw > mine.ch8",
             Verb::Check => "vip check pen.asm --chip8",
@@ -309,6 +336,7 @@ impl Verb {
             Verb::Certify => "vip certify maze.ch8 > maze.cert",
             Verb::Help => "vip help trace",
             Verb::Version => "vip version",
+            Verb::Why => "vip why trace ball.ch8 --chip8",
         }
     }
 
@@ -324,6 +352,7 @@ impl Verb {
             Verb::Profile => "FORMATS.md, A profile",
             Verb::Resume => "FORMATS.md, A trace; A machine state",
             Verb::Demo => "FORMATS.md, A demonstration and its summary",
+            Verb::Digest => "FORMATS.md, A list of games",
             Verb::Link => "FORMATS.md, Two boards",
             Verb::Asm => "SOURCES.md, 1802 assembly; CHIP-8 assembly; The dump; The bytes",
             Verb::Check => "SOURCES.md, The faults; Every fault",
@@ -333,13 +362,13 @@ impl Verb {
             Verb::Bounds => "MACHINE.md, Bounds",
             Verb::Cycles | Verb::Timing => "SOURCES.md, A cycle certificate",
             Verb::Safe | Verb::Certify => "SOURCES.md, A certificate of a game",
-            Verb::Help | Verb::Version => "COMMANDS.md, The words",
+            Verb::Help | Verb::Version | Verb::Why => "COMMANDS.md, The words",
         }
     }
 }
 
-// Each option, and what is said of it.
-const ABOUT: [(&str, &str); 15] = [
+/// Each option, and what is said of it.
+pub const ABOUT: [(&str, &str); 15] = [
     ("--keys", "a key script"),
     ("--at", "the tick and the machine cycle of each line"),
     ("--screen", "the last screen behind the lines"),

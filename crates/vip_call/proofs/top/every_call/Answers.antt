@@ -32,6 +32,7 @@ returns c words files files' out out' err err' opened status opens finishes =
       saved = continues_saved c.saved_joins.ensures c.goes_on_behind.ensures _;
       checked = checks_sources _;
       linked = brings_messages c.every_schedule.ensures.always c.every_schedule.ensures.numbers _;
+      rules = c.refused_by_rule.ensures;
       words = refuses_words _ _ says;
       due = gives_due roms _ _ says;
       complete = completes roms _ _ says;

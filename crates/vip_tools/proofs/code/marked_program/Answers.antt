@@ -3,7 +3,7 @@ use Rattle.asm_lex.specs.declared.shape.Isa.TheVariants.{Cdp1802}
 use Rattle.vip_tools.specs.Code.{LaidComes, MarkedImageAnswers}
 use Rattle.vip_words.specs.declared.request.Code.TheVariants.{Source}
 use Rattle.vip_tools.specs.Opening.{SourceComes}
-use Rattle.vip_tools.proofs.CodeLemmas.{made-image}
+use Rattle.vip_tools.proofs.CodeLemmas.{known-moved, made-image}
 use Rattle.vip_tools.proofs.JudgedLemmas.{refused-first}
 use Rattle.vip_tools.proofs.WorkLemmas.{passed}
 use Rattle.vip_tools.proofs.code.marked_program.Goals as goal
@@ -30,5 +30,5 @@ returns-in_ok-marks-in-Source c =
     rw c.in-Source.is (
       made-image c.args.memory c.in-Source.text.items c.in_ok-made-in-Source.made (rw c.as_slice.ensures.value at c.in_ok-made-in-Source.ensures)
           (Ok c.in_ok-image-in-Source.image) c.in_ok-image-in-Source.ensures,
-      rw c.as_slice-in-Source.ensures.value at c.in_ok-marks-in-Source.ensures,
+      known-moved Cdp1802 _ _ _ c.as_slice-in-Source.ensures.value c.in_ok-marks-in-Source.ensures,
     )

@@ -19,3 +19,6 @@ returns-in-Trace g c = rw c.in-Trace.is (refl, loads-none _)
 
 pub returns-in-Pictures : goal.returns-in-Pictures
 returns-in-Pictures g c = rw c.in-Pictures.is (refl, loads-none _)
+
+pub returns-in-Profile : goal.returns-in-Profile
+returns-in-Profile g c = rw c.in-Profile.is (refl, loads-none _)

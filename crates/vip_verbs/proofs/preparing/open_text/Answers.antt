@@ -1,6 +1,7 @@
 use Rattle.std.proofs.Common.{arith}
 use Rattle.vip_tools.specs.Certificates.{TimingComes}
 use Rattle.vip_tools.specs.Sources.{AsmComes, DisComes, ListComes}
+use Rattle.vip_verbs.specs.Outcome.{DigestComes}
 use Rattle.vip_verbs.proofs.WorkLemmas.{checked-answers, text-answers}
 use Rattle.vip_verbs.proofs.preparing.open_text.Goals as goal
 
@@ -30,3 +31,6 @@ pub returns-in-Timing : goal.returns-in-Timing
 returns-in-Timing c =
     rw (c.in-Timing.is, c.text-in-Timing.ensures)
     (text-answers (TimingComes c.args.file.now c.in-Timing.entry c.in-Timing.p c.in-Timing.k) _ c.timing.ensures)
+
+pub returns-in-Digest : goal.returns-in-Digest
+returns-in-Digest c = rw (c.in-Digest.is, c.text-in-Digest.ensures) (text-answers (DigestComes c.in-Digest.limit c.args.file.now) _ c.digest.ensures)
