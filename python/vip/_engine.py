@@ -9,6 +9,7 @@ import tempfile
 HERE = os.path.dirname(os.path.realpath(__file__))
 # the folder of a checkout or of what ./install puts below a prefix
 TOP = os.path.dirname(os.path.dirname(HERE))
+PREFIX = os.path.dirname(os.path.dirname(TOP))
 BUILT = os.path.join(TOP, "crates", "vip_cli", "out")
 ROOM = 1 << 20  # bytes of output that a first call has room for
 
@@ -76,13 +77,12 @@ def _libraries():
     """Where a library may be, the first that is there counts: one that VIP_LIBRARY names, of a checkout, of a prefix, of the system."""
     if "VIP_LIBRARY" in os.environ:
         return [os.environ["VIP_LIBRARY"]]
-    prefix = os.path.dirname(os.path.dirname(TOP))
-    near = [os.path.join(HERE, "libvip.so"), os.path.join(BUILT, "libvip.so"), os.path.join(prefix, "lib", "libvip.so.1")]
+    near = [os.path.join(HERE, "libvip.so"), os.path.join(BUILT, "libvip.so"), os.path.join(PREFIX, "lib", "libvip.so.1")]
     return [path for path in near if os.path.exists(path)] + ["libvip.so.1"]
 
 
 def engine():
-    """The library, or the program: that of VIP_PROGRAM, of a checkout, or the one on the path."""
+    """The library, or the program: that of VIP_PROGRAM, of a checkout, of a prefix, or the one on the path."""
     if "VIP_PROGRAM" not in os.environ:
         for path in _libraries():
             try:
@@ -90,8 +90,8 @@ def engine():
             except (OSError, AttributeError):
                 if "VIP_LIBRARY" in os.environ:
                     raise
-    built = os.path.join(BUILT, "vip_cli")
-    program = os.environ.get("VIP_PROGRAM") or (built if os.access(built, os.X_OK) else shutil.which("vip"))
+    places = os.path.join(BUILT, "vip_cli"), os.path.join(TOP, "vip"), os.path.join(PREFIX, "bin", "vip"), "vip"
+    program = os.environ.get("VIP_PROGRAM") or next(filter(None, map(shutil.which, places)), None)
     if not program:
         raise ImportError("there is neither libvip.so nor the program vip: build them by ./vip, or install them by ./install")
     return Processes(os.path.abspath(program))
