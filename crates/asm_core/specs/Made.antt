@@ -1,5 +1,5 @@
 -- What an assembled source shows.
-use Rattle.std.specs.Prelude.{◌≡◌, ◌==◌, ◌+◌, ◌<◌, ◌≤◌, ℕ, List, length, slice_index, slice_index_or, if◌then◌else◌, Option, None, refl}
+use Rattle.std.specs.Prelude.{◌≡◌, ◌==◌, ◌+◌, ◌<◌, ◌≤◌, ℕ, List, length, slice_index, slice_index_or, if◌then◌else◌, Option, None, option_map, refl}
 use Rattle.std.specs.Coded.{Coded, code_by, coded×, coded_ℕ, coded_list, coded_option}
 use Rattle.asm_core.specs.declared.assembly.LinePlace.{LinePlace}
 use Rattle.asm_core.specs.declared.table.Cell.{Cell}
@@ -66,6 +66,10 @@ made_code =
 -- the byte at an address, with its line
 abbrev pub cell_at : Made → ℕ → Option Cell
 cell_at made address = slice_index_or made.cells address None
+
+-- the byte at an address, where some line gives it one
+abbrev pub made_byte : Made → ℕ → Option ℕ
+made_byte made address = option_map (λ cell. cell.byte) (cell_at made address)
 
 -- where line i stands: the value of its label, the address at which it begins, and the one behind it
 abbrev pub value_at : Made → ℕ → LabelValue

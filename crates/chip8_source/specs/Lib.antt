@@ -1,4 +1,3 @@
 pub mod Texts
 pub mod Compared
 pub mod Faults
-pub mod Made

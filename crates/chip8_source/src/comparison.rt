@@ -5,7 +5,7 @@ ghost use Rattle.asm_core.specs.Limits.{most_bytes};
 ghost use Rattle.asm_core.specs.Sources.{source_lines};
 ghost use Rattle.chip8_source.specs.Texts.{usual_text, tall_text};
 ghost use Rattle.chip8_source.specs.Compared.{rom_bytes, Differs, AgreesBelow, Compares};
-ghost use Rattle.chip8_source.specs.Made.{made_bytes};
+ghost use Rattle.asm_core.specs.Made.{made_byte};
 ghost use Rattle.chip8_source.specs.Faults.{IsDifferenceAt, IsFirstDifference};
 
 use crate::fault::ImageFault;
@@ -32,8 +32,8 @@ fn rom_byte(image: &[u8; 2048], address: u16) -> Option<u8>
 // The fault of an address, if its bytes differ.
 fn difference_at(made: &Assembly, image: &[u8; 2048], address: u16) -> Option<ImageFault>
     ensures { MatchOption result
-        (Differs (made_bytes made.now) image.now address → ⊥)
-        (IsDifferenceAt (made_bytes made.now) image.now address) }
+        (Differs (made_byte made.now) image.now address → ⊥)
+        (IsDifferenceAt (made_byte made.now) image.now address) }
 {
     let given = made.byte(address);
     let held = rom_byte(image, address);
@@ -55,7 +55,7 @@ fn difference_at(made: &Assembly, image: &[u8; 2048], address: u16) -> Option<Im
 
 // The fault of the least address whose bytes differ.
 fn first_difference(made: &Assembly, image: &[u8; 2048]) -> Option<ImageFault>
-    ensures { MatchOption result (AgreesBelow 65536 (made_bytes made.now) image.now) (IsFirstDifference (made_bytes made.now) image.now) }
+    ensures { MatchOption result (AgreesBelow 65536 (made_byte made.now) image.now) (IsFirstDifference (made_byte made.now) image.now) }
 {
     for address in 0..=u16::MAX {
         if let Some(fault) = difference_at(made, image, address) {

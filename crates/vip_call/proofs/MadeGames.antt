@@ -23,7 +23,8 @@ use Rattle.game_check.proofs.Games.{closed_games}
 use Rattle.vip_words.specs.declared.request.MadeGame.{MadeGame}
 use Rattle.vip_words.specs.declared.request.MadeGame.TheVariants.{Demo}
 use Rattle.vip_tools.proofs.DemoLemmas.{made-bytes}
-use Rattle.vip_tools.specs.Demo.{random, with_byte, with_register, opcode_by, opcode_bytes, demo_opcodes, demo_game, made_game}
+use Rattle.vip_tools.specs.Demo.{random, with_byte, with_register, opcode_by, demo_opcodes, demo_game, made_game}
+use Rattle.asm_core.specs.Encoding.{word_bytes}
 
 -- ---- what each opcode is
 
@@ -66,12 +67,12 @@ plain r low = plain_if r low (r % 8 == 0) (r % 8 == 1) (r % 8 == 2) (r % 8 == 3)
 
 -- ---- the bytes of a game
 
-high_at : (opcodes : List ℕ) (k : ℕ) → slice_index (flat_map opcode_bytes opcodes) (2 * k) ≡ slice_index opcodes k / 256
+high_at : (opcodes : List ℕ) (k : ℕ) → slice_index (flat_map word_bytes opcodes) (2 * k) ≡ slice_index opcodes k / 256
 high_at [] k = refl
 high_at (o ∷ os) zero = refl
 high_at (o ∷ os) (suc k) = let twice : 2 * suc k ≡ suc (suc (2 * k)) = omega arith in rw twice (high_at os k)
 
-low_at : (opcodes : List ℕ) (k : ℕ) → slice_index (flat_map opcode_bytes opcodes) (2 * k + 1) ≡ slice_index opcodes k % 256
+low_at : (opcodes : List ℕ) (k : ℕ) → slice_index (flat_map word_bytes opcodes) (2 * k + 1) ≡ slice_index opcodes k % 256
 low_at [] k = refl
 low_at (o ∷ os) zero = refl
 low_at (o ∷ os) (suc k) = let twice : 2 * suc k + 1 ≡ suc (suc (2 * k + 1)) = omega arith in rw twice (low_at os k)
@@ -148,7 +149,7 @@ random_low seed zero some = absurd (omega (arith, some))
 random_low seed (suc k) some = omega arith
 
 instr_of_list : (opcodes : List ℕ) (k : ℕ)
-    → instr_in (flat_map opcode_bytes opcodes) (memory_start + 2 * k) ≡ instr_of_bytes (slice_index opcodes k / 256) (slice_index opcodes k % 256)
+    → instr_in (flat_map word_bytes opcodes) (memory_start + 2 * k) ≡ instr_of_bytes (slice_index opcodes k / 256) (slice_index opcodes k % 256)
 unfolding instr_in
 instr_of_list opcodes k =
     let high : memory_start + 2 * k - memory_start ≡ 2 * k = omega arith in

@@ -36,5 +36,6 @@ pub use check::check_link;
 pub use fault::LinkFault;
 pub use link::Link;
 pub use receiver::receiver_text;
+pub use schedule::next_random;
 pub use sender::sender_text;
 pub use side::Side;

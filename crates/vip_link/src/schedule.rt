@@ -12,8 +12,8 @@ const SUMMAND: u64 = 1_013_904_223;
 
 const MODULUS: u64 = 1 << 32;
 
-/// The random number that follows one: the next of a linear congruence modulo 2 to the 32.
-pub(crate) fn next_random(x: u32) -> u32
+/// The random number that follows one: the next of a linear congruence modulo 2 to the 32, by which schedules and the demonstration games are made.
+pub fn next_random(x: u32) -> u32
     ensures { result ≡ next_random x }
 {
     ((u64::from(x) * FACTOR + SUMMAND) % MODULUS) as u32

@@ -4,9 +4,10 @@ use Rattle.std.specs.Prelude.{option_map, unwrap_or}
 use Rattle.std.proofs.lemmas.List.FromFn.{fill_by_all, get_or-map-range_with_len, length-map-range_with_len}
 use Rattle.machine.specs.Ranges.{FitsRom}
 use Rattle.asm_lex.specs.declared.shape.Isa.TheVariants.{Cdp1802}
-use Rattle.asm_core.specs.Made.{Made, IsAssembly}
+use Rattle.asm_core.specs.Made.{Made, IsAssembly, made_byte}
 use Rattle.asm_core.specs.Sources.{source_lines}
-use Rattle.vip_tools.specs.Certificates.{Assembled, Bytes, bytes_at, made_byte, source_byte}
+use Rattle.chip8_source.specs.Compared.{Bytes}
+use Rattle.vip_tools.specs.Certificates.{Assembled, bytes_at, source_byte}
 use Rattle.vip_tools.specs.Files.{rom_size}
 
 -- the byte of a memory at this offset

@@ -4,19 +4,19 @@ use Rattle.std.specs.Prelude.{◌&&◌, not, is_some, option_map, unwrap_or}
 use Rattle.std.proofs.lemmas.Bool.{cases_lt}
 use Rattle.std.proofs.lemmas.List.FromFn.{fill_by_all, get_or-map-range_with_len, length-map-range_with_len}
 use Rattle.asm_lex.specs.declared.shape.Isa.TheVariants.{Cdp1802, Chip8}
-use Rattle.asm_core.specs.Made.{Made, IsAssembly}
+use Rattle.asm_core.specs.Made.{Made, IsAssembly, made_byte}
 use Rattle.asm_core.specs.Origins.{origins_of}
 use Rattle.asm_core.specs.Sources.{source_lines}
 use Rattle.asm_lex.specs.Names.{number_from, value_in}
 use Rattle.asm_lex.specs.declared.shape.Isa.{Isa}
-use Rattle.asm_listing.specs.Raw.{IsRaw, IsSpan, byte_at, bytes_from, span_bytes}
+use Rattle.asm_listing.specs.Raw.{IsRaw, IsSpan, bytes_from, span_bytes}
 use Rattle.chip8_lang.specs.declared.view.Edition.{Edition}
 use Rattle.vip_words.specs.declared.request.Code.TheVariants.{Source as Text}
 use Rattle.vip_words.specs.declared.request.Memory.{Memory}
 use Rattle.vip_tools.specs.declared.refusal.Misfit.TheVariants.{Stray}
 use Rattle.vip_tools.specs.declared.refusal.Refusal.{Refusal}
 use Rattle.vip_tools.specs.declared.refusal.Refusal.TheVariants.{Misfit, NoMemory}
-use Rattle.vip_tools.specs.Certificates.{made_byte, source_byte}
+use Rattle.vip_tools.specs.Certificates.{source_byte}
 use Rattle.vip_tools.specs.Code.{FitComes, GameAnswers, ImageAnswers, IsRawGame, Known, MadeGameAnswers, MadeImageAnswers, is_memory, is_stray, known_of, marked}
 use Rattle.vip_tools.specs.Opening.{SourceComes}
 use Rattle.vip_tools.specs.declared.code.Marks.{Marks}
@@ -85,7 +85,7 @@ module _ (memory : Memory) (text : List ℕ) (made : Made) (is : IsAssembly Cdp1
 
 -- ---- the game of a source is one
 
-module _ (made made' : Made) (same : (a : ℕ) → a < 65536 → byte_at made a ≡ byte_at made' a) where
+module _ (made made' : Made) (same : (a : ℕ) → a < 65536 → made_byte made a ≡ made_byte made' a) where
   one_span : (s t : Option (ℕ × ℕ)) → IsSpan made 65536 s → IsSpan made' 65536 t → s ≡ t
   one_span None None x y = refl
   one_span None (Some t) x y = let low : t.0 < 65536 = omega (arith, y.order, y.within) in let none = x t.0 low in let is = same t.0 low in let some = y.first in absurd (cc)
@@ -128,13 +128,13 @@ module _ (made made' : Made) (same : (a : ℕ) → a < 65536 → byte_at made a 
       ∙ ap (λ b. unwrap_or b 0x00) (sym (same (low + k) (omega (arith, few, within))))))
     where
       byte : ℕ → ℕ
-      byte a = unwrap_or (byte_at made a) 0x00
+      byte a = unwrap_or (made_byte made a) 0x00
 
       byte' : ℕ → ℕ
-      byte' a = unwrap_or (byte_at made' a) 0x00
+      byte' a = unwrap_or (made_byte made' a) 0x00
 
       there : ℕ → ℕ
-      there k = unwrap_or (byte_at made (low + k)) 0x00
+      there k = unwrap_or (made_byte made (low + k)) 0x00
 
   same_span : (t : Option (ℕ × ℕ)) → IsSpan made' 65536 t → span_bytes Chip8 made t ≡ span_bytes Chip8 made' t
   same_span None y = refl

@@ -10,14 +10,16 @@ use Rattle.chip8_lang.specs.State.{memory_size}
 use Rattle.chip8_lang.specs.declared.view.Edition.TheVariants.{Usual}
 use Rattle.vip_words.specs.declared.request.MadeGame.{MadeGame}
 use Rattle.vip_words.specs.declared.request.MadeGame.TheVariants.{Demo}
-use Rattle.vip_tools.specs.Demo.{random, next_random, with_byte, with_register, opcode_by, opcode_bytes, demo_game, made_game}
+use Rattle.vip_tools.specs.Demo.{random, with_byte, with_register, opcode_by, demo_game, made_game}
+use Rattle.vip_link.specs.Schedules.{next_random}
+use Rattle.asm_core.specs.Encoding.{word_bytes}
 
 -- the opcodes up to a random number, and their bytes
 abbrev pub opcodes_to : ℕ → ℕ → List ℕ
 opcodes_to seed n = 0xf029 ∷ map (λ k. opcode_by (random seed k / 65536)) (numbers_from 1 n)
 
 unfoldable pub bytes_to : ℕ → ℕ → List ℕ
-bytes_to seed n = flat_map opcode_bytes (opcodes_to seed n)
+bytes_to seed n = flat_map word_bytes (opcodes_to seed n)
 
 numbers-snoc : (m n : ℕ) → numbers_from m (suc n) ≡ numbers_from m n ++ (m + n) ∷ []
 numbers-snoc m zero = ap (λ k. k ∷ []) (omega arith)
@@ -29,10 +31,10 @@ opcodes-suc seed n =
     ap (λ os. 0xf029 ∷ os) (ap (map f) (numbers-snoc 1 n) ∙ map-append f (numbers_from 1 n) ((1 + n) ∷ []))
 
 -- one opcode more
-bytes_to-suc : (seed n : ℕ) → bytes_to seed (suc n) ≡ bytes_to seed n ++ opcode_bytes (opcode_by (random seed (1 + n) / 65536))
+bytes_to-suc : (seed n : ℕ) → bytes_to seed (suc n) ≡ bytes_to seed n ++ word_bytes (opcode_by (random seed (1 + n) / 65536))
 unfolding bytes_to
 bytes_to-suc seed n =
-    ap (flat_map opcode_bytes) (opcodes-suc seed n) ∙ flat_map-append opcode_bytes (opcodes_to seed n) (opcode_by (random seed (1 + n) / 65536) ∷ [])
+    ap (flat_map word_bytes) (opcodes-suc seed n) ∙ flat_map-append word_bytes (opcodes_to seed n) (opcode_by (random seed (1 + n) / 65536) ∷ [])
 
 -- one random number more
 pub random-more : (seed n : ℕ) → random seed (n + 1) ≡ next_random (random seed n)
@@ -44,17 +46,17 @@ pub bytes-more :
     → more ≡ game ++ opcode / 256 % 256 ∷ opcode % 256 ∷ [] → more ≡ bytes_to seed (n + 1)
 bytes-more seed n x opcode game more low had x-is opcode-is added =
     let high : opcode / 256 % 256 ≡ opcode / 256 = omega arith in
-    let next : bytes_to seed (n + 1) ≡ bytes_to seed n ++ opcode_bytes (opcode_by (random seed (n + 1) / 65536)) =
-    ap (bytes_to seed) (add-one n) ∙ bytes_to-suc seed n ∙ ap (λ k. bytes_to seed n ++ opcode_bytes (opcode_by (random seed k / 65536))) (omega arith) in
+    let next : bytes_to seed (n + 1) ≡ bytes_to seed n ++ word_bytes (opcode_by (random seed (n + 1) / 65536)) =
+    ap (bytes_to seed) (add-one n) ∙ bytes_to-suc seed n ∙ ap (λ k. bytes_to seed n ++ word_bytes (opcode_by (random seed k / 65536))) (omega arith) in
     added ∙ rw (high, had, next, ← x-is, ← opcode-is) refl
 
 -- with the two jumps behind so many
 unfoldable game_to : ℕ → ℕ → List ℕ
-game_to seed n = flat_map opcode_bytes (opcodes_to seed n ++ 0x1200 ∷ 0x1200 ∷ [])
+game_to seed n = flat_map word_bytes (opcodes_to seed n ++ 0x1200 ∷ 0x1200 ∷ [])
 
 game_to-bytes : (seed n : ℕ) → bytes_to seed n ++ 0x12 ∷ 0x00 ∷ 0x12 ∷ 0x00 ∷ [] ≡ game_to seed n
 unfolding bytes_to game_to
-game_to-bytes seed n = sym (flat_map-append opcode_bytes (opcodes_to seed n) (0x1200 ∷ 0x1200 ∷ []))
+game_to-bytes seed n = sym (flat_map-append word_bytes (opcodes_to seed n) (0x1200 ∷ 0x1200 ∷ []))
 
 game_to-whole : (seed : ℕ) → game_to seed 1613 ≡ demo_game seed
 unfolding demo_game game_to
@@ -99,7 +101,7 @@ opcodes-low seed m (suc n) some =
     All-cons (λ opcode. opcode < 65536) (opcode_by (random seed m / 65536)) _ (opcode_by-low (random seed m / 65536) (omega arith))
     (opcodes-low seed (m + 1) n (omega arith))
 
-bytes-low : (opcodes : List ℕ) → All (λ opcode. opcode < 65536) opcodes → (i : ℕ) → slice_index (flat_map opcode_bytes opcodes) i < 256
+bytes-low : (opcodes : List ℕ) → All (λ opcode. opcode < 65536) opcodes → (i : ℕ) → slice_index (flat_map word_bytes opcodes) i < 256
 bytes-low [] low i = omega arith
 bytes-low (opcode ∷ opcodes) low zero =
     let here : opcode < 65536 = All-head (λ o. o < 65536) opcode opcodes low in

@@ -8,8 +8,9 @@ use Rattle.vip_byte.specs.HexText.{hex4}
 use Rattle.vip_byte.specs.Text.{newline}
 use Rattle.asm_lex.specs.Names.{number_named, value_in}
 use Rattle.asm_lex.specs.declared.shape.Isa.TheVariants.{Cdp1802}
-use Rattle.asm_core.specs.Made.{Made, IsAssembly, IsFirstOf, cell_at}
+use Rattle.asm_core.specs.Made.{Made, IsAssembly, IsFirstOf}
 use Rattle.asm_core.specs.Sources.{source_lines, cell_before}
+use Rattle.chip8_source.specs.Compared.{Bytes}
 use Rattle.cycle_check.specs.Closed.{checked}
 use Rattle.cycle_check.specs.Exits.{exits_in, exits_text}
 use Rattle.cycle_check.specs.Found.{IsFound, IsTimingFault}
@@ -37,10 +38,6 @@ use Rattle.vip_tools.specs.Outcome.{Output, Writes}
 
 -- ---- a certificate of cycles
 
--- a byte, or none, at each address
-abbrev pub Bytes : Type 0
-Bytes = ℕ → Option ℕ
-
 -- so many bytes from an address on, and 00 where there is none
 unfoldable pub bytes_at : Bytes → ℕ → ℕ → List ℕ
 bytes_at bytes start size = map (λ offset. unwrap_or (bytes (start + offset)) 0x00) (range_with_len 0 size)
@@ -51,10 +48,6 @@ source_byte source address = option_map (λ cell. cell.byte) (cell_before Cdp180
 
 abbrev pub rom_in : List ℕ → List ℕ
 rom_in source = bytes_at (source_byte source) 0x8000 rom_size
-
--- the byte at an address of what was assembled
-abbrev pub made_byte : Made → Bytes
-made_byte made address = option_map (λ cell. cell.byte) (cell_at made address)
 
 -- a source is assembled, and its ROM is one of bytes
 pub record Assembled (source : List ℕ) : Type 0 where

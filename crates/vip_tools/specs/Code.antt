@@ -13,7 +13,7 @@ use Rattle.vip_words.specs.declared.request.Code.{Code}
 use Rattle.vip_words.specs.declared.request.Code.TheVariants.{Bytes, Source}
 use Rattle.vip_words.specs.declared.request.Memory.{Memory}
 use Rattle.vip_words.specs.declared.request.Memory.TheVariants.{Rom, Ram}
-use Rattle.vip_tools.specs.Certificates as bytes
+use Rattle.chip8_source.specs.Compared as bytes
 use Rattle.vip_tools.specs.Certificates.{bytes_at, rom_in, source_byte}
 use Rattle.vip_tools.specs.Files.{ram_size, rom_size}
 use Rattle.vip_tools.specs.Judged.{AnswersAs, Judged, RefusedBy, bind, judged, only}

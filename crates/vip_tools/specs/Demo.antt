@@ -2,13 +2,12 @@
 use Rattle.std.specs.Prelude.{ℕ, zero, suc, ◌+◌, ◌*◌, ◌/◌, ◌%◌, ◌==◌, if◌then◌else◌, List, [], ◌∷◌, ◌++◌, map}
 use Rattle.std.specs.List.{flat_map}
 use Rattle.chip8_lang.specs.Events.{numbers_from}
+use Rattle.asm_core.specs.Encoding.{word_bytes}
+use Rattle.vip_link.specs.Schedules.{next_random}
 use Rattle.vip_words.specs.declared.request.MadeGame.{MadeGame}
 use Rattle.vip_words.specs.declared.request.MadeGame.TheVariants.{Demo}
 
--- a linear congruence modulo 2 to the 32; number 0 of a series is its seed
-abbrev pub next_random : ℕ → ℕ
-next_random x = (1664525 * x + 1013904223) % 4294967296
-
+-- number 0 of a series is its seed
 abbrev pub random : ℕ → ℕ → ℕ
 random seed zero = seed
 random seed (suc k) = next_random (random seed k)
@@ -35,11 +34,8 @@ opcode_by r =
 abbrev pub demo_opcodes : ℕ → List ℕ
 demo_opcodes seed = 0xf029 ∷ map (λ k. opcode_by (random seed k / 65536)) (numbers_from 1 1613) ++ 0x1200 ∷ 0x1200 ∷ []
 
-abbrev pub opcode_bytes : ℕ → List ℕ
-opcode_bytes opcode = opcode / 256 ∷ opcode % 256 ∷ []
-
 unfoldable pub demo_game : ℕ → List ℕ
-demo_game seed = flat_map opcode_bytes (demo_opcodes seed)
+demo_game seed = flat_map word_bytes (demo_opcodes seed)
 
 -- a game that the program makes
 abbrev pub made_game : MadeGame → List ℕ

@@ -4,7 +4,8 @@ ghost use Rattle.std.specs.Prelude.{◌≡◌, ◌≤◌, ◌⊎◌, [], length,
 ghost use Rattle.chip8_lang.specs.State.{memory_size};
 ghost use Rattle.cycle_check.specs.Closed.{checked};
 ghost use Rattle.cycle_check.specs.declared.fault.CertFault.TheVariants.{NoMemory};
-ghost use Rattle.vip_tools.specs.Certificates.{CertifyComes, CyclesComes, EntryComes, ProofComes, SafeComes, TimingComes, bytes_at, count_line, exits_asked, made_byte, routine_text, within_line};
+ghost use Rattle.vip_tools.specs.Certificates.{CertifyComes, CyclesComes, EntryComes, ProofComes, SafeComes, TimingComes, bytes_at, count_line, exits_asked, routine_text, within_line};
+ghost use Rattle.asm_core.specs.Made.{made_byte};
 ghost use Rattle.vip_tools.specs.Checks.{CertificateAnswers, EnteredAnswers, RomAnswers};
 ghost use Rattle.vip_tools.specs.Files.{most_text, rom_size};
 ghost use Rattle.vip_tools.specs.Judged.{Answers};

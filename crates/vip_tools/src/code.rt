@@ -3,7 +3,8 @@
 
 ghost use Rattle.std.specs.Prelude.{◌≡◌, ◌≤◌, ◌+◌, length};
 ghost use Rattle.vip_words.specs.Request.{map_code};
-ghost use Rattle.vip_tools.specs.Certificates.{bytes_at, made_byte};
+ghost use Rattle.vip_tools.specs.Certificates.{bytes_at};
+ghost use Rattle.asm_core.specs.Made.{made_byte};
 ghost use Rattle.vip_tools.specs.Code.{GameAnswers, IsStray, MadeGameAnswers, MadeImageAnswers, MarkedGameAnswers, MarkedImageAnswers, in_ram, in_rom, is_memory};
 ghost use Rattle.vip_tools.specs.Files.{game_code, program_code, IsFit};
 

@@ -3,27 +3,14 @@
 ghost use Rattle.std.specs.Prelude.{◌≡◌, ◌≤◌, IfOk, length};
 ghost use Rattle.chip8_lang.specs.State.{memory_size};
 ghost use Rattle.chip8_lang.specs.declared.view.Edition.TheVariants.{Usual};
-ghost use Rattle.vip_tools.specs.Demo.{demo_game, made_game, next_random, opcode_by};
+ghost use Rattle.vip_tools.specs.Demo.{demo_game, made_game, opcode_by};
 
 use std::alloc::{AllocError, Global};
+use vip_link::next_random;
 use vip_words::MadeGame;
 
 /// The opcodes of a game by random numbers.
 const RANDOM_OPCODES: u32 = 1613;
-
-/// The linear congruence of the random numbers.
-const FACTOR: u64 = 1_664_525;
-
-const SUMMAND: u64 = 1_013_904_223;
-
-const MODULUS: u64 = 1 << 32;
-
-/// The next number of the linear congruence modulo 2 to the 32.
-fn next_random(x: u32) -> u32
-    ensures { result ≡ next_random x }
-{
-    ((u64::from(x) * FACTOR + SUMMAND) % MODULUS) as u32
-}
 
 /// An opcode by the high half of a random number.
 #[tactic(auto, unfolding(crate::specs::Demo::opcode_by))]

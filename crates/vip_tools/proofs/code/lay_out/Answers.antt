@@ -1,6 +1,6 @@
 use Rattle.std.proofs.Common.{◌≡◌, arith, refl}
 use Rattle.std.proofs.lemmas.List.Edits.{fill_by_more}
-use Rattle.vip_tools.specs.Certificates.{made_byte}
+use Rattle.asm_core.specs.Made.{made_byte}
 use Rattle.vip_tools.proofs.CertificateLemmas.{byte_by, whole}
 use Rattle.vip_tools.proofs.code.lay_out.Goals as goal
 

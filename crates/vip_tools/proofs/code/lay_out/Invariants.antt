@@ -1,5 +1,5 @@
 use Rattle.std.proofs.Common.{◌≡◌, ◌<◌, ℕ, get_or}
-use Rattle.vip_tools.specs.Certificates.{made_byte}
+use Rattle.asm_core.specs.Made.{made_byte}
 use Rattle.vip_tools.proofs.CertificateLemmas.{byte_by}
 use Rattle.vip_tools.proofs.code.lay_out.Given as goal
 

@@ -1,5 +1,5 @@
 use Rattle.std.proofs.Common.{◌≡◌, ◌<◌, ℕ, false}
-use Rattle.vip_tools.specs.Certificates.{made_byte}
+use Rattle.asm_core.specs.Made.{made_byte}
 use Rattle.vip_tools.specs.Code.{is_stray}
 use Rattle.vip_tools.proofs.code.stray.Given as goal
 

@@ -1,5 +1,5 @@
 use Rattle.std.proofs.Common.{◌∙◌, sym, refl, ap, arith, [], ◌∷◌, ◌++◌, length}
-use Rattle.vip_tools.specs.Demo.{next_random}
+use Rattle.vip_link.specs.Schedules.{next_random}
 use Rattle.vip_tools.proofs.DemoLemmas.{bytes_to, random-more, bytes-more, whole-game, length-game}
 use Rattle.vip_tools.proofs.demo.demo_game.Goals as goal
 
