@@ -37,9 +37,11 @@ pub(crate) fn byte_count(bytes: &Bytes) -> u32
     }
 }
 
+/// The size of an instruction with this opcode, in bytes.
 #[tactic(auto, unfolding(asm_lex::specs::Words::size_at))]
-pub(crate) fn size_at(opcode: u8) -> u8
+pub fn size_at(opcode: u8) -> u8
     ensures size { result ≡ size_at opcode }
+    ensures least { 1 ≤ result }
     ensures most { result ≤ 3 }
 {
     size(opcode)

@@ -22,6 +22,7 @@ mod table;
 mod values;
 
 pub use crate::assembly::{Assembly, LinePlace};
+pub use crate::encode::size_at;
 pub use crate::fault::{AsmCause, AsmFault};
 pub use crate::findings::{Finding, Told, check};
 pub use crate::labels::{Labels, LinesAt};

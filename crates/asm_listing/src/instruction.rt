@@ -3,7 +3,6 @@
 ghost use Rattle.std.specs.Prelude.{◌≡◌, ◌≤◌, ◌<◌, ◌+◌, ◌++◌, [], codes, length, slice_index, take, IfOk, OnOk};
 ghost use Rattle.arrayvec.specs.ArrayVec.{array_vec_len};
 ghost use Rattle.vip_isa.specs.Texts.{instruction_text};
-ghost use Rattle.asm_lex.specs.Words.{size_at};
 ghost use Rattle.asm_listing.specs.Disassembly.{data_text, disassembly, ended_line, is_undefined, is_data, size_in, taken, text_in, word_in, HasPlace};
 ghost use Rattle.asm_core.specs.Sources.{source_lines};
 ghost use Rattle.vip_byte.specs.Text.{newline};
@@ -11,11 +10,12 @@ ghost use Rattle.asm_listing.specs.WayBack.{AssemblesTo};
 
 use crate::write::append;
 use arrayvec::ArrayVec;
+use asm_core::size_at;
 use asm_lex::Isa;
 use chip8_words::opcode_words;
 use std::alloc::{AllocError, Global};
 use vip_byte::{hex2, hex4};
-use vip_isa::{InstructionText, instruction_text, size};
+use vip_isa::{InstructionText, instruction_text};
 
 /// The opcode that is no instruction of the CDP1802.
 const UNDEFINED: u8 = 0x68;
@@ -27,16 +27,6 @@ fn put(into: &mut ArrayVec<u8, 48>, bytes: &[u8])
     ensures len { array_vec_len into.new ≡ array_vec_len into.old + length bytes.now }
 {
     let _ = into.try_extend_from_slice(bytes);
-}
-
-// The size of an instruction with this opcode.
-#[tactic(auto, unfolding(asm_lex::specs::Words::size_at))]
-fn size_at(opcode: u8) -> u8
-    ensures size { result ≡ size_at opcode }
-    ensures least { 1 ≤ result }
-    ensures most { result ≤ 3 }
-{
-    size(opcode)
 }
 
 // The size of the instruction with which the bytes begin.

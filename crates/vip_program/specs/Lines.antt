@@ -1,6 +1,7 @@
 -- The lines of a trace: what each tells of the machine before its moves. Digits are upper case, and the cycle is decimal.
 use Rattle.std.specs.Prelude.{ℕ, Bool, ◌+◌, ◌*◌, ◌%◌, List, [], ◌∷◌, ◌++◌, length, map, flat_map, take, slice_index, codes, decimal, Option, Some, None}
 use Rattle.std.specs.Option.{option_map_or}
+use Rattle.asm_lex.specs.Words.{size_at}
 use Rattle.asm_core.specs.Origins.{Origins, labels_over}
 use Rattle.machine.specs.Board.{Machine, Case, case_of, byte_of, dma_byte, flags_of}
 use Rattle.machine.specs.Board.Case.{Dma, Interrupt, Idle, Instruction}
@@ -12,7 +13,6 @@ use Rattle.machine.specs.Opcodes.{kind_of, opcode_number}
 use Rattle.machine.specs.Signals.{efx_at}
 use Rattle.vip_byte.specs.HexText.{bytes_text, hex2, hex4}
 use Rattle.vip_byte.specs.Text.{bit_text, newline}
-use Rattle.vip_isa.specs.Rows.{size_of}
 use Rattle.vip_isa.specs.Texts.{instruction_text}
 use Rattle.vip_program.specs.Columns.{digit, left, right}
 use Rattle.vip_program.specs.Names.{names_in}
@@ -31,10 +31,7 @@ three_at byte address = byte address ∷ byte ((address + 1) % 65536) ∷ byte (
 abbrev pub opcode_in : List ℕ → ℕ
 opcode_in three = slice_index three 0
 
--- the size and what is named, by the opcode
-unfoldable pub size_at : ℕ → ℕ
-size_at opcode = size_of (kind_of opcode)
-
+-- what is named, by the opcode
 unfoldable pub names_at : ℕ → Names
 names_at opcode = names_in (kind_of opcode) (opcode_number opcode)
 

@@ -8,16 +8,17 @@ ghost use Rattle.machine.specs.Memory.{read};
 ghost use Rattle.vip_byte.specs.Room.{HasRoom};
 ghost use Rattle.vip_isa.specs.Texts.{instruction_text};
 ghost use Rattle.vip_board.specs.Seen.{held_by};
-ghost use Rattle.vip_program.specs.Lines.{code_text, cycle_column, fetch_text, flag_in, named_text, names_at, opcode_in, place_text, register_text, selected_text, size_at, state_text, three_at};
+ghost use Rattle.vip_program.specs.Lines.{code_text, cycle_column, fetch_text, flag_in, named_text, names_at, opcode_in, place_text, register_text, selected_text, state_text, three_at};
 ghost use Rattle.vip_program.specs.Columns.{left};
 ghost use Rattle.vip_program.specs.Names.{IsNamed};
 
 use crate::names::{Names, names_in};
 use crate::write::{fill, put_digit, put_digits, put_right};
+use asm_core::size_at;
 use vip_board::Board;
 use vip_byte::{Buffer, MOST_CYCLE, add16, hex2, hex4, put, put_bit};
 use vip_cpu::Cpu;
-use vip_isa::{decode, instruction_text, size};
+use vip_isa::{decode, instruction_text};
 use vip_memory::Memory;
 
 /// Appends the cycle of a board.
@@ -31,15 +32,6 @@ pub fn put_cycle(into: &mut Buffer, board: &Board)
 }
 
 // ---- an instruction
-
-/// The size of an instruction with this opcode.
-#[tactic(auto, unfolding(crate::specs::Lines::size_at))]
-fn size_at(opcode: u8) -> usize
-    ensures size { result ≡ size_at opcode }
-    ensures most { result ≤ 3 }
-{
-    usize::from(size(opcode))
-}
 
 /// What an opcode names.
 #[tactic(auto, unfolding(crate::specs::Lines::names_at))]
@@ -68,7 +60,7 @@ pub(crate) fn put_code(into: &mut Buffer, three: [u8; 3])
     ensures len { array_vec_len into.new ≤ array_vec_len into.old + 6 }
 {
     let start = into.len();
-    put_digits(into, &three[..size_at(three[0])]);
+    put_digits(into, &three[..usize::from(size_at(three[0]))]);
     fill(into, start, 6);
 }
 
