@@ -1,16 +1,15 @@
 -- What holds of accepted files, and of those that are written.
 use Rattle.std.specs.Prelude.{◌≡◌, ℕ, ◌<◌, ◌≤◌, List, ◌++◌, slice_index, Some}
-use Rattle.machine.specs.Board.{Machine}
 use Rattle.machine.specs.Keys.{Event as KeyEvent, held_at}
-use Rattle.machine.specs.Run.{run_to}
 use Rattle.chip8_lang.specs.declared.view.Edition.{Edition}
-use Rattle.chip8_lang.specs.Events.{Event, events_behind}
+use Rattle.chip8_lang.specs.Events.{events_behind}
 use Rattle.chip8_image.specs.Interpreters.{interpreter_of}
 use Rattle.vip_relation.specs.Follows.{Fits, last_dispatch}
 use Rattle.vip_relation.specs.State.Start.{Saved}
-use Rattle.vip_relation.specs.State.{Start, events_from, machine_of, most_cycles}
+use Rattle.vip_relation.specs.State.{Start, most_cycles}
 use Rattle.vip_show.specs.Endings.{ending_of}
 use Rattle.vip_show.specs.Output.{picture_pieces}
+use Rattle.vip_show.specs.Runs.{events_in, run_of}
 use Rattle.vip_text.specs.StateFile.{shown, IsAccepted}
 use Rattle.vip_show.specs.StateOutput.{saved_file}
 use Rattle.vip_show.specs.Written.{file_of}
@@ -21,32 +20,26 @@ use Rattle.vip_show.specs.Written.{file_of}
 abbrev pub AgreeBefore : ℕ → List KeyEvent → List KeyEvent → Type 0
 AgreeBefore t script other = (c k : ℕ) → c < t → held_at script c k ≡ held_at other c k
 
--- the run from a start under a script up to a cycle, its events, and its pictures
-abbrev pub run_from : Edition → List KeyEvent → Start → ℕ → List Machine
-run_from e script s limit = run_to (interpreter_of e).rom (held_at script) (machine_of s) limit
-
-abbrev pub events_in : Edition → List KeyEvent → Start → ℕ → List Event
-events_in e script s limit = events_from (interpreter_of e) script s limit
-
-abbrev pub pictures_in : Edition → List KeyEvent → Start → ℕ → List (List ℕ)
-pictures_in e script s limit = picture_pieces (interpreter_of e).rom (run_from e script s limit) (events_in e script s limit)
+-- the pictures of a run
+abbrev pub pictures_in : Edition → Start → List KeyEvent → ℕ → List (List ℕ)
+pictures_in e s script limit = picture_pieces (interpreter_of e).rom (run_of e s script limit) (events_in e s script limit)
 
 -- Up to a limit the run from a start is joined of that up to the cycle of a file's machine and of that from the file, whose first event, the dispatch
 -- point that was saved, is the last one of the other: their events, and so their points cycle for cycle, and the bytes of their pictures. The run ends
 -- as that from the file does, and what is saved of it is what is saved of that.
 pub record Joins (e : Edition) (s : Start) (f : List ℕ) (script : List KeyEvent) (limit : ℕ) : Type 0 where
-  pub events : events_in e script s limit ≡ events_in e script s (shown f).cycle ++ events_behind (interpreter_of e) script (shown f) limit
-  pub pictures : pictures_in e script s limit ≡ pictures_in e script s (shown f).cycle ++ pictures_in e script (Saved f) limit
-  pub ending : ending_of e (events_in e script s limit) ≡ ending_of e (events_in e script (Saved f) limit)
-  pub file : saved_file e (events_in e script s limit) ≡ saved_file e (events_in e script (Saved f) limit)
+  pub events : events_in e s script limit ≡ events_in e s script (shown f).cycle ++ events_behind (interpreter_of e) script (shown f) limit
+  pub pictures : pictures_in e s script limit ≡ pictures_in e s script (shown f).cycle ++ pictures_in e (Saved f) script limit
+  pub ending : ending_of e (events_in e s script limit) ≡ ending_of e (events_in e (Saved f) script limit)
+  pub file : saved_file e (events_in e s script limit) ≡ saved_file e (events_in e (Saved f) script limit)
 
 -- A file that is saved of a run: its machine is that of the run's last dispatch point. Under every script that holds the same keys as the run's before
 -- that point's cycle, up to every limit from this cycle on, the run is the same up to there, and is joined there with that from the file.
 pub record IsGoneOnWith (e : Edition) (s : Start) (script : List KeyEvent) (limit : ℕ) (f : List ℕ) : Type 0 where
   pub accepted : IsAccepted e f
-  pub shows : last_dispatch (events_in e script s limit) ≡ Some (shown f)
+  pub shows : last_dispatch (events_in e s script limit) ≡ Some (shown f)
   pub same : (other : List KeyEvent) → AgreeBefore (shown f).cycle script other
-      → events_in e other s (shown f).cycle ≡ events_in e script s (shown f).cycle
+      → events_in e s other (shown f).cycle ≡ events_in e s script (shown f).cycle
   pub joins : (other : List KeyEvent) → AgreeBefore (shown f).cycle script other → (later : ℕ) → (shown f).cycle ≤ later → Joins e s f other later
 
 -- what is saved of a run from any start
@@ -57,7 +50,7 @@ SavedJoins =
     → (script : List KeyEvent) (limit : ℕ)
     → limit ≤ most_cycles
     → (f : List ℕ)
-    → saved_file e (events_in e script s limit) ≡ Some f
+    → saved_file e (events_in e s script limit) ≡ Some f
     → IsGoneOnWith e s script limit f
 
 -- the state that an accepted file shows has that file

@@ -24,7 +24,8 @@ use Rattle.vip_call.specs.Language.{named, IsChip8, RunIsChip8, ShowsChip8}
 use Rattle.vip_tools.specs.Judged.Verdict.{Given}
 use Rattle.vip_tools.specs.Outcome.{Outcome, Output}
 use Rattle.vip_tools.specs.Code.{Known}
-use Rattle.vip_verbs.specs.Outcome.{known_in, HasOutcome, RunTo, ShowComes, events_in, run_ending, run_of}
+use Rattle.vip_verbs.specs.Outcome.{known_in, HasOutcome, RunTo, ShowComes, run_ending}
+use Rattle.vip_show.specs.Runs.{events_in, run_of}
 use Rattle.vip_call.specs.Top.{Call, SpeaksChip8}
 use Rattle.vip_call.proofs.FilledLemmas.{AreGiven, are_given}
 use Rattle.vip_call.proofs.GivenStarts.{begun_so}

@@ -15,7 +15,8 @@ use Rattle.vip_relation.specs.State.{Start, machine_of}
 use Rattle.vip_relation.specs.State.Start.{Reset, Saved}
 use Rattle.vip_show.specs.Endings.{ending_of}
 use Rattle.vip_text.specs.StateFile.{shown}
-use Rattle.vip_verbs.specs.Outcome.{events_in, limit_from, run_ending}
+use Rattle.vip_verbs.specs.Outcome.{limit_from, run_ending}
+use Rattle.vip_show.specs.Runs.{events_in}
 
 pub late_limit : (s : Start) (limit : ℕ) → (machine_of s).cycle ≤ limit_from s limit
 late_limit (Reset game) limit = omega arith

@@ -42,7 +42,8 @@ use Rattle.vip_tools.specs.Report.{end_report}
 use Rattle.vip_tools.specs.Status.{end_status}
 use Rattle.vip_tools.proofs.JudgedLemmas.{behind-each, same_value}
 use Rattle.vip_tools.specs.Code.{Known, nothing_known}
-use Rattle.vip_verbs.specs.Outcome.{known_in, HasOutcome, IsSavedIn, ShowComes, ending_where, events_in, events_shown, limit_from, ran, ran_with, run_ending, run_of, saved_pieces, stopped_by}
+use Rattle.vip_verbs.specs.Outcome.{known_in, HasOutcome, IsSavedIn, ShowComes, ending_where, events_shown, limit_from, ran, ran_with, run_ending, saved_pieces, stopped_by}
+use Rattle.vip_show.specs.Runs.{events_in, run_of}
 use Rattle.vip_call.specs.Saved.{Continues, GoesOn, GoesOnAsRun, IsSaved, SavesOne}
 use Rattle.vip_call.specs.Top.{Call, ContinuesSaved}
 use Rattle.vip_relation.proofs.Beginning.{begins-running}

@@ -31,7 +31,8 @@ use Rattle.vip_show.specs.Output.{picture_pieces}
 use Rattle.vip_text.specs.Endings.{Ending}
 use Rattle.vip_text.specs.Endings.Ending.{AtStop}
 use Rattle.vip_text.specs.StateFile.{shown, IsAccepted}
-use Rattle.vip_verbs.specs.Outcome.{events_in, events_shown, run_ending, run_of}
+use Rattle.vip_verbs.specs.Outcome.{events_shown, run_ending}
+use Rattle.vip_show.specs.Runs.{events_in, run_of}
 use Rattle.vip_call.specs.Language.{named}
 use Rattle.vip_call.specs.Transcribed.{shown_from}
 use Rattle.vip_call.specs.Transcript.{Point, Shows, ShowsPictures}

@@ -42,7 +42,8 @@ use Rattle.vip_tools.specs.Report.{end_report}
 use Rattle.vip_tools.specs.Status.{end_status}
 use Rattle.vip_tools.proofs.JudgedLemmas.{same_value}
 use Rattle.vip_tools.specs.Code.{Known}
-use Rattle.vip_verbs.specs.Outcome.{known_in, HasOutcome, RunTo, ShowComes, debug_ending, events_in, events_shown, limit_from, looks_of, ran, ran_with, run_ending, run_of, saved_pieces}
+use Rattle.vip_verbs.specs.Outcome.{known_in, HasOutcome, RunTo, ShowComes, debug_ending, events_shown, limit_from, looks_of, ran, ran_with, run_ending, saved_pieces}
+use Rattle.vip_show.specs.Runs.{events_in, run_of}
 use Rattle.vip_call.specs.Commands.{AllAnswered}
 use Rattle.vip_call.specs.Transcribed.{IsRun, IsShown, IsStateOf, LacksPoint, Transcribed, Transcribes, all_points, first_cycle, shown_from}
 use Rattle.vip_call.specs.Transcript.{GoesOn, Point, Shows, last_point, profile_of, summary_text, trace_text}

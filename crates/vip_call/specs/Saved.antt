@@ -21,7 +21,8 @@ use Rattle.vip_words.specs.declared.request.Show.{Show}
 use Rattle.vip_words.specs.declared.request.Show.TheVariants.{Plain}
 use Rattle.vip_words.specs.declared.request.Start.TheVariants as beginning
 use Rattle.vip_debug.specs.declared.looks.Looks.{Looks}
-use Rattle.vip_verbs.specs.Outcome.{HasOutcome, OfRun, ShowComes, debugged, events_in, shown_by}
+use Rattle.vip_verbs.specs.Outcome.{HasOutcome, OfRun, ShowComes, debugged, shown_by}
+use Rattle.vip_show.specs.Runs.{events_in}
 
 -- one go comes to what came first and then to the rest, and it ends as the rest does
 abbrev pub IsJoined : (first rest whole : Outcome) → Type 0

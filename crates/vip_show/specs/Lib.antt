@@ -3,6 +3,7 @@ pub mod Output
 pub mod Digests
 pub mod Answers
 pub mod Run
+pub mod Runs
 pub mod Written
 pub mod StateOutput
 pub mod Profile

@@ -3,9 +3,7 @@ use Rattle.std.specs.Prelude.{◌≡◌, ℕ, List, [], ◌∷◌, ◌++◌, dro
 use Rattle.std.specs.List.{flat_map}
 use Rattle.hex.specs.Hex.{encode_lower}
 use Rattle.sha2.specs.Sha256.{sha256}
-use Rattle.machine.specs.Board.{Machine}
-use Rattle.machine.specs.Keys.{Event as KeyEvent, held_at}
-use Rattle.machine.specs.Run.{run_to}
+use Rattle.machine.specs.Keys.{Event as KeyEvent}
 use Rattle.chip8_lang.specs.declared.view.Edition.{Edition}
 use Rattle.chip8_lang.specs.declared.view.Edition.TheVariants.{Usual}
 use Rattle.chip8_lang.specs.declared.view.StopRecord.{StopRecord}
@@ -35,13 +33,14 @@ use Rattle.vip_words.specs.declared.request.Start.TheVariants as beginning
 use Rattle.vip_debug.specs.Answers.{at_start, place_after, stop_by, written}
 use Rattle.chip8_image.specs.Interpreters.{interpreter_of}
 use Rattle.vip_relation.specs.Follows.{last_dispatch}
-use Rattle.vip_relation.specs.State.{Start, VipState, begun, events_from, first_events, interpreter, machine_of, state_after}
+use Rattle.vip_relation.specs.State.{Start, VipState, begun, first_events, interpreter, state_after}
 use Rattle.vip_relation.specs.State.Start.{Reset, Saved}
 use Rattle.vip_outside.specs.Pieces.{joined}
 use Rattle.vip_show.specs.Digests.{digested_columns}
 use Rattle.vip_show.specs.Endings.{ending_of}
 use Rattle.vip_show.specs.Output.{count_of, is_dispatch_event, is_picture_event, lit_at, picture_pieces, screen_piece, trace_lines}
 use Rattle.vip_show.specs.Profile.{profile_pieces}
+use Rattle.vip_show.specs.Runs.{events_in, run_of}
 use Rattle.vip_show.specs.StateOutput.{saved_file}
 use Rattle.vip_debug.specs.declared.looks.Looks.{Looks}
 use Rattle.vip_text.specs.declared.trace.TraceColumns.{TraceColumns}
@@ -72,14 +71,7 @@ use Rattle.vip_verbs.specs.Programs.{ProgramRunComes}
 
 -- ---- a run
 
--- the run from a start under a script up to a limit, and its events; and those that are shown, without the dispatch point of a saved state, which
--- counts as met
-abbrev pub run_of : Edition → Start → List KeyEvent → ℕ → List Machine
-run_of e s script limit = run_to (interpreter_of e).rom (held_at script) (machine_of s) limit
-
-abbrev pub events_in : Edition → Start → List KeyEvent → ℕ → List Event
-events_in e s script limit = events_from (interpreter_of e) script s limit
-
+-- the events of a run that are shown, without the dispatch point of a saved state, which counts as met
 abbrev pub events_shown : Edition → Start → List KeyEvent → ℕ → List Event
 events_shown e s script limit = drop (length (first_events s)) (events_in e s script limit)
 
