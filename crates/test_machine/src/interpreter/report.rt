@@ -19,7 +19,7 @@ const FRAMES: &str = "  # dispatch points, # frames, # interrupts, # of them not
 ";
 
 const WRONG: &str =
-    ": # pictures of # windows, # interrupts between a write to the screen and the next dispatch point\n";
+    ": # dispatch points, # pictures of # windows, # interrupts between a write to the screen and the next dispatch point\n";
 
 /// The most cycles of each kind of step, beside its bound, and of its parts.
 const COSTS: &str = "  boot: # of at most 1000 cycles, # of main code
@@ -98,7 +98,8 @@ pub fn write_frames(
 /// Writes what was seen of a wrong interpreter.
 pub fn write_wrong(rt: &HostRuntime, name: &str, watch: &Watch) -> anyhow::Result<()> {
     print!(rt; "  {name}")?;
-    write(rt, WRONG, &[watch.pictures, watch.windows, watch.torn])
+    let numbers = [watch.dispatches, watch.pictures, watch.windows, watch.torn];
+    write(rt, WRONG, &numbers)
 }
 
 /// Writes what the steps took.
