@@ -1,6 +1,7 @@
 """The way to `vip`: its library where there is one, else its program, a process a call."""
 import ctypes
 import ctypes.util
+import mmap
 import os
 import shutil
 import subprocess
@@ -11,7 +12,7 @@ HERE = os.path.dirname(os.path.realpath(__file__))
 TOP = os.path.dirname(os.path.dirname(HERE))
 PREFIX = os.path.dirname(os.path.dirname(TOP))
 BUILT = os.path.join(TOP, "crates", "vip_cli", "out")
-ROOM = 1 << 20  # bytes of output that a first call has room for
+ROOM = 1 << 25  # bytes of output that a first call has room for; what of it isn't written takes no memory
 
 
 class _File(ctypes.Structure):
@@ -43,11 +44,11 @@ class Library:
         held, lengths = b"".join(parts), _Lengths()
         room, said = ROOM, 1 << 16
         while True:
-            out, err = bytearray(room), bytearray(said)
+            out, err = mmap.mmap(-1, room, mmap.MAP_PRIVATE | mmap.MAP_ANONYMOUS), bytearray(said)
             into, report = (ctypes.c_char * room).from_buffer(out), (ctypes.c_char * said).from_buffer(err)
             status = self._run(line, len(line), places, len(files), held, len(held), into, room, report, said, lengths)
             if lengths.out <= room and lengths.err <= said:
-                return status, bytes(memoryview(out)[: lengths.out]), bytes(memoryview(err)[: lengths.err])
+                return status, out[: lengths.out], bytes(memoryview(err)[: lengths.err])
             # (what a call comes to is a function of what it is given, so the same comes once more)
             room, said = max(room, lengths.out), max(said, lengths.err)
 
