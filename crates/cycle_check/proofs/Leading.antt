@@ -23,12 +23,12 @@ use Rattle.cycle_check.specs.Obstacles.Met.{Enters, Goes, Passes, Unknown}
 
 -- ---- X
 
-fits-none : (x : Option ℕ) → fits_x None x ≡ true
+pub fits-none : (x : Option ℕ) → fits_x None x ≡ true
 fits-none None = refl
 fits-none (Some x) = refl
 
 -- an X that fits what two ways give fits what they give alike
-fits-common : (asked one other : Option ℕ) → fits_x asked one ≡ true → fits_x asked other ≡ true → fits_x asked (common one other) ≡ true
+pub fits-common : (asked one other : Option ℕ) → fits_x asked one ≡ true → fits_x asked other ≡ true → fits_x asked (common one other) ≡ true
 fits-common None one other h h' = fits-none (common one other)
 fits-common (Some asked) None other h h' = absurd (true≢false (sym h))
 fits-common (Some asked) (Some one) None h h' = absurd (true≢false (sym h'))
@@ -277,7 +277,7 @@ all_set rom bound places place known all this place' other known' low is = elim 
 ]
 
 -- an address that has a place lies in the ROM
-pub is_inside : (place : Option ℕ) (to : ℕ) → MatchOption place (None ≡ place) (λ p. (0x8000 + p ≡ to) × (p < 2048)) → is_some place ≡ true
+pub is_inside : (place : Option ℕ) (to : ℕ) → MatchOption place (((0x8000 ≤ to) × (to < 0x8800)) → ⊥) (λ p. (0x8000 + p ≡ to) × (p < 2048)) → is_some place ≡ true
     → (0x8000 ≤ to) × (to < 0x8800)
 is_inside None to is some = absurd (true≢false (sym some))
 is_inside (Some place) to is some = (omega (arith, is), omega (arith, is))

@@ -1,6 +1,7 @@
 pub mod Answered
 pub mod Below
 pub mod Departing
+pub mod Drawing
 pub mod Effects
 pub mod Growth
 pub mod Lookup

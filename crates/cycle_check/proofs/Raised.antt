@@ -8,7 +8,7 @@ use Rattle.std.proofs.Math.Seq.{map-set_same}
 use Rattle.std.proofs.lemmas.Bool.{and_parts, and_from, cases_Bool, cases_eq, cases_lt, leb-true, le-leb}
 use Rattle.std.proofs.lemmas.Grind.{get_or-set_at}
 use Rattle.std.proofs.lemmas.List.{get_or_default, get_or-map, get_or-set_other, length-map, length-set}
-use Rattle.std.proofs.lemmas.List.Elements.{All-get_or, All-set}
+use Rattle.std.proofs.lemmas.List.Elements.{All-set}
 use Rattle.cycle_check.specs.declared.grammar.Bound.{Bound}
 use Rattle.cycle_check.specs.declared.grammar.Line.{Line}
 use Rattle.cycle_check.specs.declared.closed.Instruction.{Instruction}
@@ -17,7 +17,7 @@ use Rattle.cycle_check.specs.declared.table.Way.{Way}
 use Rattle.cycle_check.specs.Closed.{admits, counter_after, fits_x, holds_at, instruction_at, is_closed, is_kept, is_open, is_shown, is_way_closed, known_d, left, line_at, line_behind, passes_below, pays_for, ways_at}
 use Rattle.cycle_check.specs.Table.{x_after}
 use Rattle.cycle_check.specs.Forward.{AreMade}
-use Rattle.cycle_check.specs.Obstacles.{AreClosed, AreLeast, IsOfWays, with_base, with_bases}
+use Rattle.cycle_check.specs.Obstacles.{AreClosed, AreLeast, AreReached, with_base, with_bases, without_costs}
 use Rattle.cycle_check.specs.Reading.{AreRising}
 use Rattle.cycle_check.proofs.Below.{passes_all, passes_at}
 
@@ -170,10 +170,9 @@ module _ (rom : List ℕ) (bound : Bound) where
         → is_closed bound lines (record (get_or lines place d) { base = to - 1 }) (instruction_at rom (get_or lines place d).address) ≡ false
         → AreMade rom bound (set lines place raised)
     raised_made made asks =
-        let of_ways = All-get_or (IsOfWays rom bound) lines place d within made.of_ways in
         record {
           rising = raised_rising made.rising;
-          of_ways = All-set (IsOfWays rom bound) lines place raised (record { led = of_ways.led; x = of_ways.x }) made.of_ways;
+          of_ways = subst (AreReached rom bound) (sym (map-set_same without_costs lines place raised d refl)) made.of_ways;
           least = raised_least made.least asks;
         }
 

@@ -1,5 +1,6 @@
 -- What a search holds of the addresses to which an entry leads.
-use Rattle.std.specs.Prelude.{◌≡◌, ℕ, ◌+◌, ◌<◌, ◌==◌, ◌&&◌, ◌||◌, if◌then◌else◌, Bool, true, false, List, length, slice_index_or, Option, Some, None}
+use Rattle.std.specs.Prelude.{◌≡◌, ℕ, ◌+◌, ◌-◌, ◌<◌, ◌≤◌, ◌⊎◌, ◌==◌, ◌&&◌, ◌||◌, if◌then◌else◌, Bool, true, false, List, length, slice_index_or, Option, Some, None}
+use Rattle.std.specs.Option.{option_map_or}
 use Rattle.std.specs.List.{All}
 use Rattle.machine.specs.declared.Kind.{Kind}
 use Rattle.machine.specs.declared.Kind.TheVariants.{Ldi}
@@ -11,9 +12,10 @@ use Rattle.cycle_check.specs.declared.grammar.Line.{Line}
 use Rattle.cycle_check.specs.declared.closed.Instruction.{Instruction}
 use Rattle.cycle_check.specs.declared.known.Knowledge.{Knowledge}
 use Rattle.cycle_check.specs.declared.table.When.{When}
+use Rattle.cycle_check.specs.declared.table.Way.{Way}
 use Rattle.cycle_check.specs.Table.{x_after}
-use Rattle.cycle_check.specs.Closed.{fits_x, is_shown}
-use Rattle.cycle_check.specs.Obstacles.{AreLeast, FitsAll, IsLed, IsLost, IsOfWays}
+use Rattle.cycle_check.specs.Closed.{fits_x, instruction_at, is_shown, lets_through}
+use Rattle.cycle_check.specs.Obstacles.{AreLeast, AreOfWays, FitsAll, IsLed, IsLost, IsOneOf, IsReached, IsWay, without_costs}
 use Rattle.cycle_check.specs.Reading.{AreRising}
 
 -- ---- what is known
@@ -88,8 +90,68 @@ pub record StaysTrue (old new : Forward) : Type 0 where
 
 -- ---- the lines that are made
 
--- in order, of addresses to which ways lead, and with no BASE above the least
+-- the line of an address of the ROM, by its place
+abbrev pub drawn_at : List (Option Line) → ℕ → Option Line
+drawn_at places address = slice_index_or places (address - 0x8000) None
+
+-- how much more may be lost at a place: where it has no line yet, X and the fact of its line, and the line
+abbrev pub fact_weight : Fact → ℕ
+fact_weight says.Any = 0
+fact_weight fact = 1
+
+abbrev pub weight : Option Line → ℕ
+weight None = 3
+weight (Some line) = option_map_or (λ x. 1) line.x 0 + fact_weight line.fact
+
+module _ (rom : List ℕ) (bound : Bound) (places : List (Option Line)) where
+  -- the line at a place is that of an address that is reached
+  pub record IsDrawn (place : ℕ) (line : Line) : Type 0 where
+    pub of : line.address ≡ 0x8000 + place
+    pub reached : IsReached rom bound (drawn_at places) line
+    pub bare : without_costs line ≡ line
+
+  -- lines of addresses that are reached, that of the entry among them
+  pub record AreDrawn : Type 0 where
+    pub count : length places ≡ 2048
+    pub each : (place : ℕ) (line : Line) → slice_index_or places place None ≡ Some line → IsDrawn place line
+    pub entry : ((0x8000 ≤ bound.entry) × (bound.entry < 0x8800))
+        → (line : Line) × (drawn_at places bound.entry ≡ Some line) × (line.x ≡ None) × (line.fact ≡ says.Any)
+
+  -- the line at the end of a way asks for no more than the way shows
+  pub record IsHeld (line : Line) (way : Way) (to : ℕ) : Type 0 where
+    pub behind : Line
+    pub there : drawn_at places to ≡ Some behind
+    pub x : fits_x behind.x (x_after (instruction_at rom line.address).op.kind (instruction_at rom line.address).op.n line.x) ≡ true
+    pub fact : is_shown bound.k (instruction_at rom line.address) line.fact way.when 0 behind.fact ≡ true
+
+  abbrev pub IsWayHeld : Line → Way → Type 0
+  IsWayHeld line way = (to : ℕ) → IsWay rom bound line.address way to → lets_through line.fact way.when ≡ true → IsHeld line way to
+
+  -- each way of a line
+  abbrev pub AreHeld : Line → Type 0
+  AreHeld line = (way : Way) → IsOneOf rom bound line.address way → IsWayHeld line way
+
+  -- each way of the line at a place, if there is one
+  abbrev pub AreHeldFrom : ℕ → Type 0
+  AreHeldFrom place = (line : Line) → slice_index_or places place None ≡ Some line → AreHeld line
+
+  abbrev pub AreWhole : Type 0
+  AreWhole = (place : ℕ) → AreHeldFrom place
+
+  -- a line asks for no more than that before it
+  abbrev pub IsLess : Option Line → Line → Type 0
+  IsLess None line = Unit {0}
+  IsLess (Some old) line = (old.x ≡ None → line.x ≡ None) × ((line.fact ≡ old.fact) ⊎ (line.fact ≡ says.Any))
+
+  -- a line that is to be at a place, where less is asked for then
+  pub record IsEnd (place : ℕ) (line : Line) : Type 0 where
+    pub within : place < length places
+    pub drawn : IsDrawn place line
+    pub less : IsLess (slice_index_or places place None) line
+    pub weighs : weight (Some line) < weight (slice_index_or places place None)
+
+-- in order, of the addresses that are reached, and with no BASE above the least
 pub record AreMade (rom : List ℕ) (bound : Bound) (lines : List Line) : Type 0 where
   pub rising : AreRising lines
-  pub of_ways : All (IsOfWays rom bound) lines
+  pub of_ways : AreOfWays rom bound lines
   pub least : AreLeast rom bound lines

@@ -15,7 +15,7 @@ use Rattle.cycle_check.specs.declared.grammar.Line.{Line}
 use Rattle.cycle_check.specs.Certificate.{certificate_format, certificate_of}
 use Rattle.cycle_check.specs.Closed.{bytes_at, checked, left, line_at}
 use Rattle.cycle_check.specs.Exits.{exits, remarks_text}
-use Rattle.cycle_check.specs.Obstacles.{AreLeast, IsLed, IsMost, IsOfWays, IsRefused, IsUncounted}
+use Rattle.cycle_check.specs.Obstacles.{AreLeast, AreOfWays, IsLed, IsMost, IsRefused, IsUncounted}
 
 -- ---- the text of a certificate: single blanks, upper-case digits, no leading zeros
 
@@ -83,11 +83,11 @@ pub record IsCertificate (rom : List ℕ) (entry p k : ℕ) (text : List ℕ) : 
   pub leaves : All (λ exit. leaves_rom exit.to) (exits rom bound lines)
   pub limit : HasLimit bound lines
 
--- One is found: it is the text of lines of addresses to which ways lead, each with the least BASE.
+-- One is found: it is the text of lines of exactly the addresses that are reached, each with the least BASE.
 pub record IsFoundFrom (rom : List ℕ) (start : Bound) (text : List ℕ) : Type 0 where
   pub limit : ℕ
   pub lines : List Line
-  pub of_ways : All (IsOfWays rom start) lines
+  pub of_ways : AreOfWays rom start lines
   pub least : AreLeast rom start lines
   pub is : text ≡ timing_text rom (record start { limit = limit }) lines
   pub certificate : IsCertificate rom start.entry start.p start.k text
@@ -104,11 +104,11 @@ module _ (rom : List ℕ) (bound : Bound) where
     pub limit : ℕ
     pub none : IsCertificate rom bound.entry bound.p bound.k (timing_text rom (record bound { limit = limit }) lines) → ⊥
 
-  -- Ways lead to the address, and lines of addresses to which ways lead, each with one fact and no BASE above the least, are no certificate.
+  -- Ways lead to the address, and lines of exactly the addresses that are reached, with no BASE above the least, are no certificate.
   pub record IsUnfounded (address : ℕ) : Type 0 where
     pub led : IsLed rom bound address
     pub lines : List Line
-    pub of_ways : All (IsOfWays rom bound) lines
+    pub of_ways : AreOfWays rom bound lines
     pub least : AreLeast rom bound lines
     pub fails : FailsWith lines
 

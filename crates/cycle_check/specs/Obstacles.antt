@@ -10,7 +10,7 @@ use Rattle.cycle_check.specs.declared.grammar.Line.{Line}
 use Rattle.cycle_check.specs.declared.table.Way.{Way}
 use Rattle.cycle_check.specs.Table.{x_after}
 use Rattle.cycle_check.specs.Certificate.{most_left}
-use Rattle.cycle_check.specs.Closed.{cause_at, first_from, fits_x, instruction_at, is_allowed, is_closed, is_open, is_shown, line_at, ways_from}
+use Rattle.cycle_check.specs.Closed.{cause_at, first_from, fits_x, instruction_at, is_allowed, is_closed, is_open, is_shown, lets_through, line_at, ways_from}
 
 -- the row assigns R(N).0
 abbrev pub assigns_low : Kind → Bool
@@ -31,6 +31,10 @@ with_base base line = record line { base = base line.address }
 
 abbrev pub with_bases : (ℕ → ℕ) → List Line → List Line
 with_bases base = map (with_base base)
+
+-- a line without BASE and STEP
+abbrev pub without_costs : Line → Line
+without_costs line = record line { base = 0; step = 0 }
 
 module _ (rom : List ℕ) (bound : Bound) where
   -- ---- the ways from the entry
@@ -71,6 +75,45 @@ pub data Met (rom : List ℕ) (bound : Bound) : ℕ → Said → Type 0 where
       → ((byte : ℕ) → is_open way.when (Some byte) ≡ false → Met rom bound address (Loses (says.Is byte)))
       → ((held : Fact) → is_shown bound.k (instruction_at rom address) held way.when 0 fact ≡ true → Met rom bound address (Loses held))
       → Met rom bound to (Loses fact)
+
+-- Ways lead from an entry in the ROM to an address of it, each let through by the fact of the line where it begins, and leave this in X.
+pub data Reached (rom : List ℕ) (bound : Bound) (line_of : ℕ → Option Line) : ℕ → Option ℕ → Type 0 where
+  Starts : ((0x8000 ≤ bound.entry) × (bound.entry < 0x8800)) → Reached rom bound line_of bound.entry None
+  Reaches : (address to : ℕ) (x : Option ℕ) (line : Line) (way : Way) → Reached rom bound line_of address x → line_of address ≡ Some line
+      → IsWay rom bound address way to → lets_through line.fact way.when ≡ true
+      → Reached rom bound line_of to (x_after (instruction_at rom address).op.kind (instruction_at rom address).op.n x)
+
+module _ (rom : List ℕ) (bound : Bound) where
+  -- ---- the lines of a routine
+
+  -- an X that a line may ask for at an address, by whichever ways it is reached
+  abbrev pub FitsReached : (ℕ → Option Line) → ℕ → Option ℕ → Type 0
+  FitsReached line_of address x = (given : Option ℕ) → Reached rom bound line_of address given → fits_x x given ≡ true
+
+  -- The line of an address that is reached: its X is what all ways leave there.
+  pub record IsReached (line_of : ℕ → Option Line) (line : Line) : Type 0 where
+    pub reached : (given : Option ℕ) × Reached rom bound line_of line.address given
+    pub x : (asked : Option ℕ) → FitsReached line_of line.address asked → fits_x asked line.x ≡ true
+
+  -- there is a line of the address whose X is there
+  abbrev pub HasLine : (ℕ → Option Line) → ℕ → Option ℕ → Type 0
+  HasLine line_of address given = (line : Line) × (line_of address ≡ Some line) × (fits_x line.x given ≡ true)
+
+  -- each way of a line that its fact lets through shows the fact of the line to which it leads
+  abbrev pub IsShown : (ℕ → Option Line) → Line → Type 0
+  IsShown line_of line = (way : Way) (to : ℕ) (behind : Line) → line_of to ≡ Some behind → IsWay rom bound line.address way to
+      → lets_through line.fact way.when ≡ true → is_shown bound.k (instruction_at rom line.address) line.fact way.when 0 behind.fact ≡ true
+
+  -- Lines of exactly the addresses that are reached. Each way shows the X and the fact of the line to which it leads, and the entry's line asks for none.
+  pub record AreReached (lines : List Line) : Type 0 where
+    pub all : (address : ℕ) (given : Option ℕ) → Reached rom bound (line_at lines) address given → HasLine (line_at lines) address given
+    pub only : All (IsReached (line_at lines)) lines
+    pub shown : All (IsShown (line_at lines)) lines
+    pub entered : (line : Line) → line_at lines bound.entry ≡ Some line → line.fact ≡ says.Any
+
+  -- the lines, without what they say of the cycles that are left
+  abbrev pub AreOfWays : List Line → Type 0
+  AreOfWays lines = AreReached (map without_costs lines)
 
 module _ (rom : List ℕ) (bound : Bound) where
   abbrev pub LeadsTo : ℕ → Option ℕ → Type 0
@@ -125,12 +168,7 @@ module _ (rom : List ℕ) (bound : Bound) where
     pub goes : (i : ℕ) → i < length turn → LeadsOn (slice_index turn i) (slice_index turn ((i + 1) % length turn))
     pub uncounted : (All (λ a. assigns_counter a ≡ false) turn) ⊎ (Any (λ a. MayRaise a) turn)
 
-  -- ---- the lines of a routine
-
-  -- A line of an address to which ways lead: its X is the one that all of them give.
-  pub record IsOfWays (line : Line) : Type 0 where
-    pub led : IsLed line.address
-    pub x : (asked : Option ℕ) → FitsAll line.address asked → fits_x asked line.x ≡ true
+  -- ---- closed lines
 
   -- what each line says follows from what the lines behind its instruction say
   abbrev pub AreClosed : List Line → Type 0
@@ -142,11 +180,10 @@ module _ (rom : List ℕ) (bound : Bound) where
 
   -- ---- Most
 
-  -- The least BASE of an address passes what a certificate may say, among closed lines of addresses to which ways lead.
+  -- The least BASE of an address passes what a certificate may say, among closed lines of exactly the addresses that are reached.
   pub record IsMost (address : ℕ) : Type 0 where
-    pub led : IsLed address
     pub lines : List Line
-    pub of_ways : All IsOfWays lines
+    pub of_ways : AreOfWays rom bound lines
     pub least : AreLeast lines
     pub closed : first_from (cause_at rom bound lines) 1 lines ≡ None
     pub line : Line

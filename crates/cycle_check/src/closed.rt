@@ -236,8 +236,8 @@ fn loads_not_zero(kind: Kind, named: bool, d: Option<u8>) -> bool
     }
 }
 
-// The X that a line asks for, where it asks for one, is there.
-fn fits_x(asked: Option<u8>, x: Option<u8>) -> bool
+/// The X that a line asks for, where it asks for one, is there.
+pub fn fits_x(asked: Option<u8>, x: Option<u8>) -> bool
     ensures { result ≡ fits_x asked x }
 {
     match (asked, x) {

@@ -1,20 +1,21 @@
 //! A certificate that is found for a routine.
 
-ghost use Rattle.std.specs.Prelude.{◌≡◌, ◌<◌, ◌≤◌, ◌⊎◌, ◌++◌, ◌∷◌, [], ◌≢◌, true, false, length, IfOk, IfErr, IfSome, OnOk, None, Some};
+ghost use Rattle.std.specs.Prelude.{◌≡◌, ◌<◌, ◌≤◌, ◌≢◌, true, false, length, IfOk, IfErr, IfSome, OnOk, None, Some};
 ghost use Rattle.std.specs.List.{All};
-ghost use Rattle.cycle_check.specs.Forward.{AreMade, IsTrueOf};
+ghost use Rattle.cycle_check.specs.Forward.{AreDrawn, AreMade, AreWhole, IsTrueOf};
 ghost use Rattle.cycle_check.specs.Closed.{fault_in};
 ghost use Rattle.cycle_check.specs.Found.{HasLimit, IsCertificate, IsFound, IsFoundFrom, IsTimingFault, leaves_rom, timing_text};
-ghost use Rattle.cycle_check.specs.Obstacles.{IsLed, IsMost, IsOfWays};
+ghost use Rattle.cycle_check.specs.Obstacles.{IsLed, IsMost};
 ghost use Rattle.cycle_check.specs.Reading.{AreRising, IsRead};
 
-use crate::certificate::{Draft, is_behind, read_certificate};
+use crate::certificate::{Draft, read_certificate};
 use crate::closed::{fault_in, first_cause, left, line_at};
 use crate::components::{Found, find_components};
 use crate::cost::find_costs;
+use crate::drawn::{draw, drawn_at};
 use crate::exits::{Exit, all_leave_rom, exits_of};
 use crate::fault::{CertFault, TimingCause, TimingFault, obstacle};
-use crate::forward::{Forward, explore};
+use crate::forward::{Forward, ROM_SIZE, explore};
 use crate::grammar::{Bound, Line, MOST_LEFT};
 use crate::graph::{Graph, graph_of};
 use crate::least::raise_all;
@@ -26,10 +27,11 @@ use vip_byte::MOST_TEXT;
 /// `check_cycles` accepts, written with single blanks, upper-case digits and no leading zeros, and has a remark for each exit behind its lines.
 /// Each exit is by SEP of another register, or leads out of the ROM.
 ///
-/// From the entry on the ways are followed that what is known of D opens, and a line says a fact and an X that all ways there show. A
-/// loop has the least STEP that pays its turns, and each line the least BASE. Where an address is met whose opcode no line allows, where a
-/// loop isn't counted, or where a BASE passes 1,000,000, the answer is that; so it is where one fact a line doesn't suffice, and the lines are no
-/// certificate; or memory was wanting. For which routines one is found is not promised.
+/// From the entry on the ways are followed that what is known of D opens, which finds the facts. The lines are of exactly the addresses to which
+/// ways lead that these facts let through, and each says a fact and the X that all ways there show. A loop has the least STEP that pays its turns,
+/// and each line the least BASE. Where an address is met whose opcode no line allows, where a loop isn't counted, or where a BASE passes 1,000,000,
+/// the answer is that; so it is where one fact a line doesn't suffice, and the lines are no certificate; or memory was wanting. For which routines
+/// one is found is not promised.
 pub fn find_timing(
     alloc: Global,
     rom: &[u8; 2048],
@@ -51,16 +53,18 @@ pub fn find_timing(
     find_in(alloc, &forward)
 }
 
-// Finds a certificate whose lines are those of the addresses that were met.
+// Finds a certificate whose lines are those of the addresses to which ways lead that the lines let through.
 fn find_in(alloc: Global, forward: &Forward) -> Result<Vec<u8>, TimingFault>
     requires { IsTrueOf forward.now }
     ensures found { IfOk result (λ text. IsFoundFrom forward.now.rom.now forward.now.bound text.items) }
     ensures fits { IfOk result (λ text. length text.items ≤ MOST_TEXT) }
     ensures fault { IfErr result (IsTimingFault forward.now.rom.now forward.now.bound) }
 {
-    let mut graph = graph_of(alloc, forward)?;
+    let drawn = draw(alloc, forward)?;
+    let places = drawn.as_slice();
+    let mut graph = graph_of(alloc, forward.rom, &forward.bound, places)?;
     let turn = settle_costs(alloc, forward, &mut graph)?;
-    let lines = lines_with(alloc, forward, &mut graph, turn.is_none())?;
+    let lines = lines_with(alloc, forward, places, &mut graph, turn.is_none())?;
     certify(
         alloc,
         forward,
@@ -69,17 +73,19 @@ fn find_in(alloc: Global, forward: &Forward) -> Result<Vec<u8>, TimingFault>
     )
 }
 
-// The lines of the addresses that were met, with their BASEs where the graph has their STEPs.
+// The lines of a routine by their place, with their BASEs where the graph has their STEPs.
 fn lines_with(
     alloc: Global,
     forward: &Forward,
+    places: &[Option<Line>],
     graph: &mut Graph,
     settled: bool,
 ) -> Result<Vec<Line>, AllocError>
-    requires { IsTrueOf forward.now }
+    requires drawn { AreDrawn forward.now.rom.now forward.now.bound places.now }
+    requires whole { AreWhole forward.now.rom.now forward.now.bound places.now }
     ensures { IfOk result (λ lines. AreMade forward.now.rom.now forward.now.bound lines.items) }
 {
-    let mut lines = lines_of(alloc, forward, graph)?;
+    let mut lines = lines_of(alloc, forward, places, graph)?;
     if !settled {
         return Ok(lines);
     }
@@ -119,15 +125,21 @@ fn first_of(forward: &Forward, turn: &[u16]) -> Result<u16, TimingFault>
     }
 }
 
-// The lines of the addresses that were met, with their STEPs by a graph and no BASE. Their addresses rise.
-fn lines_of(alloc: Global, forward: &Forward, graph: &Graph) -> Result<Vec<Line>, AllocError>
-    requires { IsTrueOf forward.now }
+// The lines of a routine by their place, with their STEPs by a graph and no BASE.
+fn lines_of(
+    alloc: Global,
+    forward: &Forward,
+    places: &[Option<Line>],
+    graph: &Graph,
+) -> Result<Vec<Line>, AllocError>
+    requires drawn { AreDrawn forward.now.rom.now forward.now.bound places.now }
+    requires whole { AreWhole forward.now.rom.now forward.now.bound places.now }
     ensures { IfOk result (λ lines. AreMade forward.now.rom.now forward.now.bound lines.items) }
 {
     let mut lines = Vec::new(alloc);
-    for address in 0x8000..0x8800u16 {
-        if let Some(line) = forward.line_at(address) {
-            push_behind(&mut lines, with_step(graph, line))?;
+    for place in 0..ROM_SIZE {
+        if let Some(line) = drawn_at(places, place) {
+            lines.push(with_step(graph, line))?;
         }
     }
     Ok(lines)
@@ -144,18 +156,6 @@ fn with_step(graph: &Graph, line: Line) -> Line
         },
         None => line,
     }
-}
-
-// Adds a line whose address is above the others.
-fn push_behind(lines: &mut Vec<Line>, line: Line) -> Result<(), AllocError>
-    requires { AreRising lines.old.items }
-    ensures rising { OnOk result (AreRising lines.new.items) }
-    ensures items { OnOk result ((lines.new.items ≡ lines.old.items) ⊎ (lines.new.items ≡ lines.old.items ++ line ∷ [])) }
-{
-    if is_behind(lines.as_slice(), line.address) {
-        lines.push(line)?;
-    }
-    Ok(())
 }
 
 // The text of a certificate with these lines, or what stands against one. Where a turn takes from the counter, and its line can't say that this isn't
@@ -206,7 +206,6 @@ fn is_over(line: &Line) -> bool
 
 // The first address whose line has a BASE above that.
 fn most_in(forward: &Forward, lines: &[Line]) -> Option<u16>
-    requires true_of { IsTrueOf forward.now }
     requires made { AreMade forward.now.rom.now forward.now.bound lines.now }
     ensures { IfSome result (λ address. IsMost forward.now.rom.now forward.now.bound address) }
 {
@@ -219,13 +218,12 @@ fn most_in(forward: &Forward, lines: &[Line]) -> Option<u16>
 }
 
 fn is_most(forward: &Forward, lines: &[Line], address: u16) -> bool
-    requires true_of { IsTrueOf forward.now }
     requires made { AreMade forward.now.rom.now forward.now.bound lines.now }
     ensures { result ≡ true → IsMost forward.now.rom.now forward.now.bound address }
 {
     match line_at(lines, u32::from(address)) {
         Some(line) if is_over(&line) => {
-            forward.is_led(address) && first_cause(forward.rom, &forward.bound, lines).is_none()
+            first_cause(forward.rom, &forward.bound, lines).is_none()
         }
         _ => false,
     }

@@ -8,7 +8,7 @@ ghost use Rattle.cycle_check.specs.declared.grammar.Fact.TheVariants.{NonZero};
 ghost use Rattle.cycle_check.specs.Closed.{instruction_at, ways_from};
 ghost use Rattle.cycle_check.specs.Found.{IsTimingFault};
 ghost use Rattle.cycle_check.specs.Forward.{IsKnown, IsTrueOf, StaysTrue};
-ghost use Rattle.cycle_check.specs.Obstacles.{IsLed, IsLost, IsOfWays, IsOneOf, MayBeAllowed};
+ghost use Rattle.cycle_check.specs.Obstacles.{IsLed, IsLost, IsOneOf, MayBeAllowed};
 
 use crate::closed::{
     Instruction, instruction_at, is_allowed, is_open, is_shown, lets_through, ways_from,
@@ -65,7 +65,7 @@ pub struct Forward<'a> {
 
 /// The place in the ROM of an address, where it has one.
 pub fn place_of(address: u32) -> Option<usize>
-    ensures { MatchOption result (None ≡ result) (λ place. (0x8000 + place ≡ address) × (place < 2048)) }
+    ensures { MatchOption result (((0x8000 ≤ address) × (address < 0x8800)) → ⊥) (λ place. (0x8000 + place ≡ address) × (place < 2048)) }
 {
     if (0x8000..0x8800).contains(&address) {
         Some((address - 0x8000) as usize)
@@ -254,7 +254,6 @@ impl Forward<'_> {
     fn line_with(&self, address: u16, known: &Knowledge) -> Line
         ensures address { result.address ≡ address }
         ensures x { result.x ≡ known.now.x }
-        ensures base { result.base ≡ 0 }
     {
         Line {
             address,
@@ -433,14 +432,13 @@ impl Forward<'_> {
         true
     }
 
-    /// The line of an address, where it was met, which doesn't say yet what is left.
-    pub fn line_at(&self, address: u16) -> Option<Line>
+    /// The fact that the line of an address says, where it was met, and else that nothing is known.
+    pub fn fact_at(&self, address: u16) -> Fact
         requires { IsTrueOf self.now }
-        ensures { IfSome result (λ line. (line.address ≡ address) × (line.base ≡ 0) × IsOfWays self.now.rom.now self.now.bound line) }
     {
         match self.known_at(u32::from(address)) {
-            Some(known) => Some(self.line_with(address, &known)),
-            None => None,
+            Some(known) => self.choose(address, &known),
+            None => Fact::Any,
         }
     }
 

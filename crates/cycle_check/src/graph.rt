@@ -1,9 +1,8 @@
 //! The lines of a routine as a graph: which lines lead to which, and which of them take one from the counter.
 
-ghost use Rattle.cycle_check.specs.Forward.{IsTrueOf};
-
 use crate::closed::{Instruction, instruction_at, lets_through, ways_from};
-use crate::forward::{Forward, ROM_SIZE, end_of};
+use crate::drawn::drawn_at;
+use crate::forward::{ROM_SIZE, end_of};
 use crate::grammar::{Bound, Fact, Line};
 use crate::table::{Way, Ways};
 use crate::turn::{assigns_low, takes_one};
@@ -33,22 +32,22 @@ pub struct Graph {
     pub nodes: Vec<Option<Node>>,
 }
 
-/// The graph of the lines of the addresses that were met.
-pub fn graph_of(alloc: Global, forward: &Forward) -> Result<Graph, AllocError>
-    requires { IsTrueOf forward.now }
-{
+/// The graph of the lines of a routine by their place in the ROM.
+pub fn graph_of(
+    alloc: Global,
+    rom: &[u8],
+    bound: &Bound,
+    places: &[Option<Line>],
+) -> Result<Graph, AllocError> {
     let mut nodes = Vec::new(alloc);
-    for address in 0x8000..0x8800u16 {
-        let node = match forward.line_at(address) {
-            Some(line) => Some(node_of(forward.rom, &forward.bound, &line)),
+    for place in 0..ROM_SIZE {
+        let node = match drawn_at(places, place) {
+            Some(line) => Some(node_of(rom, bound, &line)),
             None => None,
         };
         nodes.push(node)?;
     }
-    Ok(Graph {
-        k: forward.bound.k,
-        nodes,
-    })
+    Ok(Graph { k: bound.k, nodes })
 }
 
 fn node_of(rom: &[u8], bound: &Bound, line: &Line) -> Node {

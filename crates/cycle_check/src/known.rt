@@ -109,8 +109,8 @@ fn byte_after(instruction: &Instruction, byte: Option<u8>) -> Option<u8>
     }
 }
 
-// What two ways give alike.
-fn common(one: Option<u8>, other: Option<u8>) -> Option<u8>
+/// What two ways give alike.
+pub fn common(one: Option<u8>, other: Option<u8>) -> Option<u8>
     ensures { result ≡ common one other }
 {
     match (one, other) {

@@ -22,6 +22,7 @@ mod certificate;
 mod closed;
 mod components;
 mod cost;
+mod drawn;
 mod exits;
 mod fault;
 mod find;
