@@ -1,5 +1,5 @@
 -- What an accepted certificate shows: of a routine by its law, of a game by its law and that of every run.
-use Rattle.std.proofs.Common.{◌≡◌, ℕ, ◌+◌, ◌<◌, ◌≤◌, List, [], ◌∷◌, length, slice_index, None, ap, subst, sym}
+use Rattle.std.proofs.Common.{◌≡◌, ℕ, ◌+◌, ◌<◌, ◌≤◌, List, [], ◌∷◌, length, slice_index, None, Ok, ap, subst, sym}
 use Rattle.machine.specs.Board.{Machine}
 use Rattle.machine.specs.Keys.{Event as KeyEvent}
 use Rattle.chip8_lang.specs.declared.view.Edition.{Edition}
@@ -8,7 +8,12 @@ use Rattle.chip8_lang.specs.Events.Event.{Picture, Dispatch, Stopped}
 use Rattle.chip8_lang.specs.Places.{state_of}
 use Rattle.chip8_lang.specs.State.{Lang, memory_size}
 use Rattle.chip8_lang.specs.Step.{stop_of}
+use Rattle.asm_core.specs.Origins.{origins_of}
+use Rattle.asm_core.specs.Sources.{source_lines}
+use Rattle.asm_lex.specs.declared.shape.Isa.TheVariants.{Cdp1802, Chip8}
+use Rattle.cycle_check.specs.Closed.{checked}
 use Rattle.cycle_check.specs.Leaving.{AcceptedIsWithin}
+use Rattle.cycle_check.specs.declared.Within.{Within}
 use Rattle.game_check.specs.Laws.{CertifiedGames}
 use Rattle.game_check.specs.Proof.{IsAccepted}
 use Rattle.game_check.specs.States.{IsRunFrom, NeverStops, last_of}
@@ -17,17 +22,21 @@ use Rattle.rom_board.specs.Laws.{EveryRun}
 use Rattle.rom_board.specs.Program.{numbered, program}
 use Rattle.chip8_image.specs.Interpreters.{interpreter_of}
 use Rattle.chip8_lang.specs.declared.view.Edition.TheVariants.{Usual}
+use Rattle.vip_words.specs.declared.request.Code.{Code}
+use Rattle.vip_words.specs.declared.request.Code.TheVariants.{Bytes, Source}
 use Rattle.vip_words.specs.declared.request.Request.TheVariants as request
 use Rattle.vip_words.specs.declared.request.Start.{Start}
 use Rattle.vip_words.specs.declared.request.Start.TheVariants.{Made}
 use Rattle.vip_words.specs.declared.request.TextVerb.TheVariants as text
 use Rattle.vip_tools.specs.declared.status.Status.TheVariants.{Done}
+use Rattle.vip_tools.specs.Certificates.{certify_shown, rom_in, timing_shown}
 use Rattle.vip_tools.specs.Files.{Loaded, needed}
 use Rattle.vip_tools.specs.Judged.Verdict.{Given}
 use Rattle.vip_tools.specs.Outcome.{Output, Shown}
 use Rattle.vip_tools.specs.Demo.{made_game}
 use Rattle.vip_tools.proofs.DemoLemmas.{made-bytes, made-fits}
 use Rattle.vip_tools.proofs.JudgedLemmas.{same_value}
+use Rattle.vip_tools.proofs.RemarkLemmas.{proof-accepted, routine-accepted}
 use Rattle.vip_verbs.specs.Outcome.{HasOutcome}
 use Rattle.vip_call.specs.Certified.{Certifies, IsSafe, NeedsNone, NoneStops}
 use Rattle.vip_call.specs.Top.{Call, ProvesCertified}
@@ -78,6 +87,14 @@ module _ (routines : AcceptedIsWithin) (games : CertifiedGames) (law : EveryRun)
 
   -- ---- a command
 
+  -- what is found is accepted as it is shown
+  shown_routine : (source text : List ℕ) (within : Within) → checked (rom_in source) text ≡ Ok within → checked (rom_in source) (timing_shown source text) ≡ Ok within
+  shown_routine source text within accepted = routine-accepted (rom_in source) (origins_of Cdp1802 (source_lines source)) text within accepted
+
+  shown_proof : (e : Edition) (code : Code (List ℕ)) (game text : List ℕ) → IsAccepted e game text → IsAccepted e game (certify_shown e code game text)
+  shown_proof e (Bytes bytes) game text accepted = accepted
+  shown_proof e (Source source) game text accepted = proof-accepted e game (origins_of Chip8 (source_lines source)) text accepted
+
   written : (output : Output) (text : List ℕ) → Given output ≡ Shown (text ∷ []) Done [] → output.pieces ≡ text ∷ []
   written output text is = ap (λ o. o.pieces) (same_value output _ is)
 
@@ -95,7 +112,10 @@ module _ (routines : AcceptedIsWithin) (games : CertifiedGames) (law : EveryRun)
         address = at.value;
         entered = at.gives;
         found = found.gives.0;
-        leaves = routines _ found.value (record { entry = at.value; limit = found.gives.0.certificate.bound.limit }) comes.value.fits found.gives.0.certificate.accepted;
+        accepted = shown_routine source found.value _ found.gives.0.certificate.accepted;
+        leaves =
+            routines _ (timing_shown source found.value) (record { entry = at.value; limit = found.gives.0.certificate.bound.limit }) comes.value.fits
+            (shown_routine source found.value _ found.gives.0.certificate.accepted);
       }
   shows (request.Safe code certificate edition) output given comes =
       let game = game_fits edition code given.0 comes.value comes.gives in
@@ -115,6 +135,7 @@ module _ (routines : AcceptedIsWithin) (games : CertifiedGames) (law : EveryRun)
               text = found.value;
               written = written output _ found.here;
               found = found.gives;
+              accepted = shown_proof edition code comes.value found.value found.gives.accepted;
               safe = is_safe edition comes.value found.value game.fits game.bytes found.gives.accepted;
             };
       }

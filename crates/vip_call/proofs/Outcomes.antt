@@ -61,7 +61,7 @@ use Rattle.vip_words.specs.declared.request.Start as asked
 use Rattle.vip_words.specs.declared.request.Start.TheVariants as beginning
 use Rattle.vip_words.specs.declared.request.TextVerb.{TextVerb}
 use Rattle.vip_words.specs.declared.request.TextVerb.TheVariants as text
-use Rattle.vip_tools.specs.Certificates.{EntryComes, ProofComes, ProofFound, RoutineComes, RoutineFound, SafeComes, CertifyComes, CyclesComes, SourceRom, TimingComes, cert_refusal, count_line, exits_asked, find_refusal, proof_refusal, rom_in, routine_text, timing_refusal}
+use Rattle.vip_tools.specs.Certificates.{EntryComes, ProofComes, ProofFound, RoutineComes, RoutineFound, SafeComes, CertifyComes, CyclesComes, SourceRom, TimingComes, cert_refusal, certify_shown, count_line, exits_asked, find_refusal, proof_refusal, rom_in, routine_text, timing_refusal, timing_shown}
 use Rattle.vip_tools.specs.Code.{FitComes, GameComes, ImageComes, IsFitGame, IsLarge, Known, LaidComes, known_of}
 use Rattle.vip_tools.specs.Files.{Loaded, needed, script_files, show_files}
 use Rattle.vip_tools.specs.Judged.{Judged, bind, cause_of, each, judged, only}
@@ -191,8 +191,9 @@ timing_once source entry p k =
     any_behind (SourceRom source) (SourceRom source) _ _ (rom_once source)
     (λ made made'. any_behind (EntryComes made.made entry) (EntryComes made'.made entry) _ _
     (search_agree _ _ _ _ _ (λ name s r tells. cc))
-    (λ a b. any_behind (RoutineFound (rom_in source) a p k) (RoutineFound (rom_in source) b p k) Writes Writes
-    (search_agree _ _ _ _ timing_refusal timing_never) writes_once))
+    (λ a b. any_behind (RoutineFound (rom_in source) a p k) (RoutineFound (rom_in source) b p k) (λ text. Writes (timing_shown source text))
+    (λ text. Writes (timing_shown source text)) (search_agree _ _ _ _ timing_refusal timing_never)
+    (λ text text'. writes_once (timing_shown source text) (timing_shown source text'))))
 
 text_verb_once : (verb : TextVerb) (file : List ℕ) → OneEnd (TextVerbComes verb file) (TextVerbComes verb file)
 text_verb_once (text.Asm isa raw) source = text_once isa source (IsBytes isa raw)
@@ -221,8 +222,10 @@ found_or_none e game =
     (λ a f s r x bad tells. has_none e game f s r bad tells a x.fits x.accepted)
     (λ f g s t r q x y z w. find_status f s r z ∙ sym (find_status g t q w))
 
-certify_once : (e : Edition) (game : List ℕ) → OneEnd (CertifyComes e game) (CertifyComes e game)
-certify_once e game = any_behind (ProofFound e game) (ProofFound e game) Writes Writes (found_or_none e game) writes_once
+certify_once : (e : Edition) (code : Code (List ℕ)) (game : List ℕ) → OneEnd (CertifyComes e code game) (CertifyComes e code game)
+certify_once e code game =
+    any_behind (ProofFound e game) (ProofFound e game) (λ text. Writes (certify_shown e code game text)) (λ text. Writes (certify_shown e code game text))
+    (found_or_none e game) (λ text text'. writes_once (certify_shown e code game text) (certify_shown e code game text'))
 
 -- a source gives one game, or none
 large_or_not : (e : Edition) (text : List ℕ) (made made' : Made) → IsAssembly Chip8Words (source_lines text) made → IsAssembly Chip8Words (source_lines text) made'
@@ -351,7 +354,7 @@ module _ (given : RomsGiven) where
   agree (request.Cycles source certificate exits) = cycles_once source certificate exits
   agree (request.Safe code certificate edition) =
       once_behind (GameComes edition code) (λ game. SafeComes edition game certificate) (game_once edition code) (λ game. safe_once edition game certificate)
-  agree (request.Certify code edition) = once_behind (GameComes edition code) (CertifyComes edition) (game_once edition code) (certify_once edition)
+  agree (request.Certify code edition) = once_behind (GameComes edition code) (CertifyComes edition code) (game_once edition code) (certify_once edition code)
   agree _ = ends_once _
 
   -- ---- which statuses come, and who may give up
@@ -482,7 +485,8 @@ module _ (given : RomsGiven) where
       let l = request.Text (text.Timing entry p k) source in
       free_behind l (SourceRom source) _ (assembled_free l source)
       (λ made. free_behind l (EntryComes made.made entry) _ (part l _ _ _ (λ f x. tt))
-      (λ address. free_behind l (RoutineFound (rom_in source) address p k) Writes (part l _ _ timing_refusal (λ f x. timing_fine f)) (writes_free l)))
+      (λ address. free_behind l (RoutineFound (rom_in source) address p k) (λ text. Writes (timing_shown source text))
+      (part l _ _ timing_refusal (λ f x. timing_fine f)) (λ text. writes_free l (timing_shown source text))))
     where
       timing_fine : (f : TimingFault) → IsFine (IsDue (request.Text (text.Timing entry p k) source)) (Unit {0}) (cause_of (timing_refusal f))
       timing_fine (timing.NotFound obstacle) = tt
@@ -510,7 +514,8 @@ module _ (given : RomsGiven) where
   free (request.Certify code edition) =
       let l = request.Certify code edition in
       free_behind l (GameComes edition code) _ (game_free l edition code)
-      (λ game. free_behind l (ProofFound edition game) Writes (part l _ _ find_refusal (λ f x. find_fine f)) (writes_free l))
+      (λ game. free_behind l (ProofFound edition game) (λ text. Writes (certify_shown edition code game text)) (part l _ _ find_refusal (λ f x. find_fine f))
+      (λ text. writes_free l (certify_shown edition code game text)))
     where
       find_fine : (f : FindFault) → IsFine (IsDue (request.Certify code edition)) ⊥ (cause_of (find_refusal f))
       find_fine (find.NotFound why) = (λ x. x, λ is. absurd (cc))
@@ -573,7 +578,7 @@ decides_certify call asked code e game report asks gives comes = elim comes [
       subst (HasNone e) (sym same) (none_there found.value found.here)
 ]
   where
-    none_there : (a : List ℕ) → CertifyComes e a (Refused NoCertificate report) → HasNone e a
+    none_there : (a : List ℕ) → CertifyComes e code a (Refused NoCertificate report) → HasNone e a
     none_there a there = elim there [
       | inl why ↦ has_none e a why.fault NoCertificate report why.is why.tells
       | inr written ↦ let never = written.here in absurd (cc)

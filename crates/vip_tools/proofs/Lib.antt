@@ -6,5 +6,6 @@ pub mod JudgedLemmas
 pub mod WorkLemmas
 pub mod CodeLemmas
 mod CertificateLemmas
+pub mod RemarkLemmas
 mod ReportLemmas
 pub mod GamesLemmas

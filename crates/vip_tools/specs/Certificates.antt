@@ -7,8 +7,9 @@ use Rattle.chip8_lang.specs.declared.view.Edition.{Edition}
 use Rattle.vip_byte.specs.HexText.{hex4}
 use Rattle.vip_byte.specs.Text.{newline}
 use Rattle.asm_lex.specs.Names.{number_named, value_in}
-use Rattle.asm_lex.specs.declared.shape.Isa.TheVariants.{Cdp1802}
+use Rattle.asm_lex.specs.declared.shape.Isa.TheVariants.{Cdp1802, Chip8}
 use Rattle.asm_core.specs.Made.{Made, IsAssembly, IsFirstOf}
+use Rattle.asm_core.specs.Origins.{origins_of}
 use Rattle.asm_core.specs.Sources.{source_lines, cell_before}
 use Rattle.chip8_source.specs.Compared.{Bytes}
 use Rattle.cycle_check.specs.Closed.{checked}
@@ -31,6 +32,9 @@ use Rattle.vip_tools.specs.declared.refusal.NoTiming.TheVariants.{Undefined, Obs
 use Rattle.vip_tools.specs.declared.refusal.Refusal.{Refusal}
 use Rattle.vip_tools.specs.declared.refusal.Refusal.TheVariants.{Certificate, NoCertificate, NoMemory, NoTiming, Proof}
 use Rattle.vip_tools.specs.Files.{most_text, rom_size}
+use Rattle.vip_tools.specs.Remarks.{proof_shown, routine_shown}
+use Rattle.vip_words.specs.declared.request.Code.{Code}
+use Rattle.vip_words.specs.declared.request.Code.TheVariants as given
 use Rattle.vip_words.specs.declared.request.Entry.{Entry}
 use Rattle.vip_tools.specs.Judged.{Judged, bind, judged}
 use Rattle.vip_tools.specs.Opening.{source_refusal}
@@ -102,11 +106,16 @@ abbrev pub RoutineFound : List ℕ → ℕ → ℕ → ℕ → Judged (List ℕ)
 RoutineFound rom address p k =
     judged (λ text. IsFound rom address p k text × (length text ≤ most_text)) (IsTimingFault rom (record { entry = address; p = p; k = k; limit = 0 })) timing_refusal
 
+-- it is written with the names of the source's labels
+abbrev pub timing_shown : List ℕ → List ℕ → List ℕ
+timing_shown source text = routine_shown (rom_in source) (origins_of Cdp1802 (source_lines source)) text
+
 -- The first fault of the source; that the entry's name has no number; some certificate; or where the search for one ended: of which routines one is found, and
 -- what is named where none is, nothing is said.
 abbrev pub TimingComes : List ℕ → Entry → ℕ → ℕ → Judged Output
 TimingComes source entry p k =
-    bind (SourceRom source) (λ made. bind (EntryComes made.made entry) (λ address. bind (RoutineFound (rom_in source) address p k) Writes))
+    bind (SourceRom source) (λ made. bind (EntryComes made.made entry) (λ address. bind (RoutineFound (rom_in source) address p k)
+    (λ text. Writes (timing_shown source text))))
 
 -- ---- a game's certificate
 
@@ -131,6 +140,11 @@ find_refusal find.NoMemory = NoMemory
 abbrev pub ProofFound : Edition → List ℕ → Judged (List ℕ)
 ProofFound e game = judged (IsGameFound e game) (IsWhy e game) find_refusal
 
+-- a certificate is written as it is, and that of a source with the names of its labels
+abbrev pub certify_shown : Edition → Code (List ℕ) → List ℕ → List ℕ → List ℕ
+certify_shown e (given.Bytes bytes) game text = text
+certify_shown e (given.Source source) game text = proof_shown e game (origins_of Chip8 (source_lines source)) text
+
 -- The least certificate that `safe` accepts, exactly where there is one that is small enough for it; or why there is none.
-abbrev pub CertifyComes : Edition → List ℕ → Judged Output
-CertifyComes e game = bind (ProofFound e game) Writes
+abbrev pub CertifyComes : Edition → Code (List ℕ) → List ℕ → Judged Output
+CertifyComes e code game = bind (ProofFound e game) (λ text. Writes (certify_shown e code game text))

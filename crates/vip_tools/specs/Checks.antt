@@ -1,7 +1,11 @@
 -- What the checks of certificates answer.
 use Rattle.std.specs.Prelude.{◌≡◌, ℕ, List, Bool, Result, Ok, Err, Vec}
+use Rattle.asm_core.specs.Origins.{origins_of}
+use Rattle.asm_core.specs.Sources.{source_lines}
+use Rattle.asm_lex.specs.declared.shape.Isa.TheVariants.{Cdp1802}
 use Rattle.cycle_check.specs.declared.Within.{Within}
 use Rattle.cycle_check.specs.declared.exits.Exit.{Exit}
+use Rattle.vip_tools.specs.declared.certificates.Routine.{Routine}
 use Rattle.vip_tools.specs.declared.refusal.Refusal.{Refusal}
 use Rattle.vip_tools.specs.Certificates.{Assembled, EntryComes, SourceRom, RoutineComes, exits_asked, rom_in}
 use Rattle.vip_tools.specs.Judged.{Judged, RefusedBy, bind}
@@ -17,8 +21,9 @@ RomAnswers source (Err refusal) = RefusedBy (SourceRom source) refusal
 abbrev pub EntersComes : List ℕ → Entry → Judged ℕ
 EntersComes source entry = bind (SourceRom source) (λ made. EntryComes made.made entry)
 
-abbrev pub EnteredAnswers : List ℕ → Entry → Result (List ℕ × ℕ) Refusal → Type 0
-EnteredAnswers source entry (Ok found) = EntersComes source entry (Given found.1) × (found.0 ≡ rom_in source)
+abbrev pub EnteredAnswers : List ℕ → Entry → Result Routine Refusal → Type 0
+EnteredAnswers source entry (Ok found) =
+    EntersComes source entry (Given found.address) × (found.rom ≡ rom_in source) × (found.origins ≡ origins_of Cdp1802 (source_lines source))
 EnteredAnswers source entry (Err refusal) = RefusedBy (EntersComes source entry) refusal
 
 -- a certificate of cycles is checked for a ROM, and its exits are there where they are asked for

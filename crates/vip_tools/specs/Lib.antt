@@ -7,6 +7,7 @@ pub mod Outcome
 pub mod Opening
 pub mod Sources
 pub mod Work
+pub mod Remarks
 pub mod Certificates
 pub mod Checks
 pub mod Code

@@ -26,6 +26,7 @@ mod obstacle;
 mod pages;
 mod reading;
 mod refusal;
+mod remarks;
 mod report;
 mod status;
 mod tools;

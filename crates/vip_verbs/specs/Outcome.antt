@@ -261,5 +261,5 @@ HasOutcome (request.Link message moves number) = LinkComes message moves number
 HasOutcome (request.Text verb file) = TextVerbComes verb file
 HasOutcome (request.Cycles source certificate exits) = CyclesComes source certificate exits
 HasOutcome (request.Safe code certificate edition) = bind (GameComes edition code) (λ game. SafeComes edition game certificate)
-HasOutcome (request.Certify code edition) = bind (GameComes edition code) (CertifyComes edition)
+HasOutcome (request.Certify code edition) = bind (GameComes edition code) (CertifyComes edition code)
 HasOutcome (request.Own text) = Writes (own_text text)

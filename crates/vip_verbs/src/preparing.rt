@@ -2,7 +2,7 @@
 
 ghost use Rattle.std.specs.Prelude.{◌≡◌, ◌≤◌, length};
 ghost use Rattle.vip_words.specs.Request.{asked_of, map_code};
-ghost use Rattle.vip_tools.specs.Certificates.{CertifyComes, SafeComes};
+ghost use Rattle.vip_tools.specs.Certificates.{SafeComes};
 ghost use Rattle.vip_tools.specs.Code.{GameComes};
 ghost use Rattle.vip_tools.specs.Files.{game_code, loaded_of, most_of, most_text, needed, AreFit, IsFit};
 ghost use Rattle.vip_tools.specs.Judged.{bind};
@@ -59,19 +59,6 @@ fn safe_code<'a>(
 {
     let game = game(alloc, edition, code)?;
     safe(alloc, edition, game.as_slice(), certificate)
-}
-
-/// Searches for a certificate of a game by its code, which is assembled first where it is a source.
-fn certify_code<'a>(
-    alloc: Global,
-    edition: Edition,
-    code: Code<Vec<u8>>,
-) -> Result<Vec<u8>, Refusal<'a>>
-    requires { IsFit (game_code edition (map_code (λ bytes. bytes.items) code)) }
-    ensures { TextAnswers (bind (GameComes edition (map_code (λ bytes. bytes.items) code)) (CertifyComes edition)) result }
-{
-    let game = game(alloc, edition, code)?;
-    certify(alloc, edition, game.as_slice())
 }
 
 /// A verb that writes a text alone.
@@ -146,7 +133,7 @@ fn prepare<'a>(alloc: Global, request: Request<Vec<u8>>) -> Result<Prepared, Ref
             certificate,
             edition,
         } => text(safe_code(alloc, edition, game, certificate.as_slice())),
-        Request::Certify { game, edition } => text(certify_code(alloc, edition, game)),
+        Request::Certify { game, edition } => text(certify(alloc, edition, game)),
         Request::Own(own) => text(own_text(alloc, own)),
     }
 }

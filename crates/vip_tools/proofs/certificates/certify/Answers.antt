@@ -1,15 +1,22 @@
-use Rattle.std.proofs.Common.{inl, refl, subst}
-use Rattle.game_check.specs.Least.{IsWhy}
-use Rattle.game_check.specs.declared.fault.FindFault.TheVariants.{NotFound}
+use Rattle.std.proofs.Common.{refl}
+use Rattle.vip_tools.specs.Certificates.{CertifyComes, ProofFound}
+use Rattle.vip_tools.specs.Judged.{only}
+use Rattle.vip_words.specs.declared.request.Code.TheVariants.{Bytes}
+use Rattle.vip_tools.proofs.WorkLemmas.{text-behind, written-of}
 use Rattle.vip_tools.proofs.certificates.certify.Goals as goal
 
-pub returns-in-Ok : goal.returns-in-Ok
-returns-in-Ok c = record { value = c.in-Ok.text.items; gives = c.in-Ok.ensures.found; here = refl }
+pub returns-in-Bytes : goal.returns-in-Bytes
+returns-in-Bytes c =
+    let game = c.in-Bytes.game.items in
+    rw c.in-Bytes.is
+    (text-behind (only game) (CertifyComes c.args.edition (Bytes game)) game refl _
+    (written-of (ProofFound c.args.edition game) _ (rw c.as_slice.ensures.value at c.found_proof.ensures)))
 
-pub returns-in-Err-NotFound : goal.returns-in-Err-NotFound
-returns-in-Err-NotFound c =
-    inl (record {
-      fault = NotFound c.in-Err-NotFound.obstacle;
-      is = subst (IsWhy c.args.edition c.args.game.now) c.in-Err-NotFound.field-0-is c.in-Err-NotFound.ensures.why;
-      tells = refl;
-    })
+pub found_proof-requires : goal.found_proof-requires
+found_proof-requires c = let fit = rw c.in-Bytes.is at c.requires in rw c.as_slice.ensures.value fit.fits
+
+pub certify_source-requires : goal.certify_source-requires
+certify_source-requires c = rw c.in-Source.is at c.requires
+
+pub returns-in-Source : goal.returns-in-Source
+returns-in-Source c = rw c.in-Source.is c.certify_source.ensures

@@ -34,4 +34,5 @@ returns c = (
     here = c.in_ok-address.ensures;
   },
   c.rom_of-rom.ensures ∙ same_bytes c.args.source.now c.in_ok-made.made 0x8000 rom_size (omega arith) c.in_ok-made.ensures,
+  c.in_ok-_names.ensures.origins Cdp1802 c.in_ok-made.ensures,
 )

@@ -38,7 +38,7 @@ returns-in-Safe c =
 pub returns-in-Certify : goal.returns-in-Certify
 returns-in-Certify c =
     rw (c.in-Certify.is, c.text-in-Certify.ensures)
-    (text-answers (bind (GameComes c.in-Certify.edition (map_code (λ bytes. bytes.items) c.in-Certify.game)) (CertifyComes c.in-Certify.edition)) _ c.certify_code.ensures)
+    (text-answers (bind (GameComes c.in-Certify.edition (map_code (λ bytes. bytes.items) c.in-Certify.game)) (CertifyComes c.in-Certify.edition (map_code (λ bytes. bytes.items) c.in-Certify.game))) _ c.certify.ensures)
 
 pub returns-in-Own : goal.returns-in-Own
 returns-in-Own c = rw (c.in-Own.is, c.text-in-Own.ensures) (text-answers (Writes (own_text c.in-Own.own)) _ c.own_text.ensures)
