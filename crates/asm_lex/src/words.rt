@@ -1,6 +1,6 @@
 //! Words and their operands.
 
-ghost use Rattle.std.specs.Prelude.{◌≡◌, ℕ, List, length, map};
+ghost use Rattle.std.specs.Prelude.{◌≡◌, ◌&&◌, ℕ, List, length, map, nat_le};
 ghost use Rattle.asm_lex.specs.Words.{directive_of, opcode_named, mnemonic_entry, entry_of, one_register, port_of, one_port, is_one_number, are_none, are_numbers, number_written, with_number, coded, register_given, gives_register, takes, directive_meaning, meaning_of};
 ghost use Rattle.asm_lex.specs.Names.{value_in, is_number};
 ghost use Rattle.machine.specs.Opcodes.{kind_of};
@@ -47,9 +47,19 @@ fn directive(word: &[u8]) -> Option<Word>
     }
 }
 
+// Whether a word has as many letters as a mnemonic of the CDP1802 may have.
+fn is_short(word: &[u8]) -> bool
+    ensures { result ≡ (nat_le 2 (length word.now) && nat_le (length word.now) 4) }
+{
+    2 <= word.len() && word.len() <= 4
+}
+
 fn opcode(word: &[u8]) -> Option<u8>
     ensures { result ≡ opcode_named word.now }
 {
+    if !is_short(word) {
+        return None;
+    }
     for opcode in 0..=u8::MAX {
         if spells(word, mnemonic(opcode)) {
             return Some(opcode);
