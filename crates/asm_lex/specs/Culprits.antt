@@ -12,7 +12,7 @@ use Rattle.asm_lex.specs.declared.shape.Place.{Place}
 use Rattle.asm_lex.specs.declared.words.Entry.{Entry}
 use Rattle.asm_lex.specs.declared.words.Entry.TheVariants.{Words}
 use Rattle.asm_lex.specs.declared.culprit.Sought.{Sought}
-use Rattle.asm_lex.specs.declared.culprit.Sought.TheVariants.{LongName, LargeNumber, Undefined}
+use Rattle.asm_lex.specs.declared.culprit.Sought.TheVariants.{LongName, LargeNumber, Undefined, NotGiven}
 use Rattle.asm_lex.specs.Bytes.{is_colon, is_forbidden, is_name, is_long_name, ends_name}
 use Rattle.asm_lex.specs.Parts.{code_of, label_of, statement_of, word_of, behind_word}
 use Rattle.asm_lex.specs.Expressions.{is_sign, is_large, sum_in}
@@ -23,11 +23,13 @@ use Rattle.asm_lex.specs.Places.{label_span, word_span, behind_span, operand_spa
 use Rattle.asm_lex.specs.Spans.{text_at}
 use Rattle.asm_lex.specs.Words.{meaning_of, entry_of}
 
--- what is sought among the parts of a text: a name that is too long, a number above 65535, a name that stands for no number
+-- what is sought among the parts of a text: a name that is too long, a number above 65535, a name that stands for no number, or for
+-- nothing
 abbrev pub is_sought : Isa → Names → Sought → List ℕ → Bool
 is_sought isa names LongName text = is_long_name text
 is_sought isa names LargeNumber text = is_large isa text
 is_sought isa names Undefined text = is_name isa text && is_none (number_named names text)
+is_sought isa names NotGiven text = is_name isa text && is_none (names text)
 
 -- the first of some parts that passes, where one byte stands between two of them: how many bytes stand before it, and the part
 abbrev pub first_part : (List ℕ → Bool) → List (List ℕ) → Option (ℕ × List ℕ)

@@ -11,4 +11,5 @@ pub mod Words
 pub mod Lines
 pub mod Places
 pub mod Culprits
+pub mod Operands
 pub mod Notes

@@ -32,6 +32,8 @@ pub enum Sought {
     LargeNumber,
     /// A name that stands for no number.
     Undefined,
+    /// A name that stands for nothing.
+    NotGiven,
 }
 
 fn is_sought(isa: Isa, names: &Symbols, sought: Sought, text: &[u8]) -> bool
@@ -41,6 +43,7 @@ fn is_sought(isa: Isa, names: &Symbols, sought: Sought, text: &[u8]) -> bool
         Sought::LongName => is_long_name(text),
         Sought::LargeNumber => is_large(isa, text),
         Sought::Undefined => is_name(isa, text) && names.number(text).is_none(),
+        Sought::NotGiven => is_name(isa, text) && names.get(text).is_none(),
     }
 }
 

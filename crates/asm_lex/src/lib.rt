@@ -21,6 +21,7 @@ mod expression;
 mod forms;
 mod names;
 mod note;
+mod operand;
 mod shape;
 mod spans;
 mod text;
@@ -30,10 +31,12 @@ pub use crate::culprit::{Sought, first_term, is_label, lex_culprit, missing_colo
 pub use crate::expression::{has_large_number, value};
 pub use crate::names::{SymbolIter, Symbols};
 pub use crate::note::note_in;
+pub use crate::operand::{is_number_at, is_unread, line_entry};
 pub use crate::shape::{Isa, LexFault, Line, Place, Span, SymbolValue, ValueFault, Word};
 use crate::spans::parts_of;
 pub use crate::spans::{LineSpans, line_spans, text_at};
 use crate::text::{are_allowed, has_long_name, is_name};
+pub use crate::words::Entry;
 use crate::words::{entry_of, meaning};
 use arrayvec::ArrayVec;
 

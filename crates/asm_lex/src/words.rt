@@ -17,7 +17,7 @@ use vip_isa::{Kind, Op, Operands, decode, encode, mnemonic, operands_in};
 
 /// A word of the table.
 #[derive(Clone, Copy)]
-pub(crate) enum Entry {
+pub enum Entry {
     /// A mnemonic of the CDP1802, by the first opcode that has it.
     Mnemonic(u8),
     /// A mnemonic of CHIP-8, by the first form that has it.
