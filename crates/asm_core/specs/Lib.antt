@@ -12,4 +12,5 @@ pub mod Labels
 pub mod Origins
 pub mod Culprits
 pub mod Told
+pub mod Operands
 pub mod Surveys

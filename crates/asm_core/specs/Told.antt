@@ -27,7 +27,7 @@ use Rattle.asm_core.specs.Sources.{Known, known_first, known_after, line_at, nam
 
 -- ---- pass 1
 
--- A faulty line's label counts as defined, as a number; it leaves the address. A line that is too long is read up to its 255th byte.
+-- A faulty line's label counts as defined, as a number that is no register's; it leaves the address. A line that is too long is read up to its 255th byte.
 abbrev pub label_if_name : Isa → Option (List ℕ) → Option (List ℕ)
 label_if_name isa None = None
 label_if_name isa (Some label) = if is_name isa label then Some label else None
@@ -38,7 +38,7 @@ guessed_label isa line =
     label_if_name isa (option_map (text_at front) (label_span (code_of front)))
 
 abbrev pub with_guess : Names → Option (List ℕ) → Names
-with_guess names label = if is_duplicate names label then names else with_label names label (Number 0)
+with_guess names label = if is_duplicate names label then names else with_label names label (Number 32768)
 
 abbrev pub guessed_from : Isa → Known → List ℕ → Result Laid AsmCause → Known
 guessed_from isa known line (Ok laid) = known_after known (label_in isa known.names line) (Ok laid)
@@ -71,6 +71,10 @@ seen_next isa seen line = seen_after isa seen line (laid_by isa seen line)
 
 unfoldable pub seen_at : Isa → List (List ℕ) → ℕ → Seen
 seen_at isa source i = fold (seen_next isa) (seen_first isa) (take i source)
+
+-- the names that the lines of a source give, be they faulty or not
+abbrev pub given_names : Isa → List (List ℕ) → Names
+given_names isa source = (seen_at isa source (length source)).known.names
 
 -- Behind the first fault addresses are unknown: a value that is out of its range is told only where a number above 65535 is written, and bytes
 -- past the last address aren't told.

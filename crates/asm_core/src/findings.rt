@@ -8,7 +8,7 @@ ghost use Rattle.asm_core.specs.Layout.{encoded};
 ghost use Rattle.asm_core.specs.Limits.{most_bytes};
 ghost use Rattle.asm_core.specs.Passes.{LaysOut, IsFound, line_plan, planned};
 ghost use Rattle.asm_core.specs.Sources.{source_lines};
-ghost use Rattle.asm_core.specs.Told.{label_if_name, guessed_label, with_colon, is_sure, sure_finding, finding_2, seen_at, kept_before, told_1, told_2, IsEachOf, AreTold, AreNoted, NothingTold, AgreesWithFaults};
+ghost use Rattle.asm_core.specs.Told.{label_if_name, guessed_label, with_colon, is_sure, sure_finding, finding_2, seen_at, given_names, kept_before, told_1, told_2, IsEachOf, AreTold, AreNoted, NothingTold, AgreesWithFaults};
 ghost use Rattle.asm_core.specs.Surveys.{Learns, Guesses, Looks, HasNoLines, AddsFound, PutsLine};
 
 use crate::assembly::LinePlace;
@@ -23,6 +23,9 @@ use asm_lex::{
     Isa, Place, SymbolValue, Symbols, Word, is_label, line_spans, missing_colon, note_in, text_at,
 };
 use std::alloc::{AllocError, Global};
+
+/// The number for which the label of a faulty line stands, which is no register's.
+const GUESSED: u16 = 0x8000;
 
 /// What is wrong with a line: why, and where in it.
 #[derive(Clone, Copy)]
@@ -117,7 +120,7 @@ fn guess(
     }
     if let Some(label) = guessed_label(isa, line) {
         if names.get(label).is_none() {
-            names.define(alloc, label, SymbolValue::Number(0))?;
+            names.define(alloc, label, SymbolValue::Number(GUESSED))?;
         }
     }
     Ok(at)
@@ -270,6 +273,7 @@ fn pass_1(alloc: Global, isa: Isa, text: &[u8], with_notes: bool) -> Result<Firs
     ensures told { IfOk result (λ first. IsEachOf (told_1 isa (source_lines text.now)) (length (source_lines text.now)) first.told.findings.items) }
     ensures noted { IfOk result (λ first. with_notes ≡ true → AreNoted isa (source_lines text.now) first.told.notes.items) }
     ensures faulty { IfOk result (λ first. first.faulty ≡ (seen_at isa (source_lines text.now) (length (source_lines text.now))).faulty) }
+    ensures given { IfOk result (λ first. value_in first.plan.names ≡ given_names isa (source_lines text.now)) }
     ensures plan { IfOk result (λ first. first.faulty ≡ false →
         LaysOut isa (source_lines text.now) (length (source_lines text.now)) (planned first.plan)) }
 {
@@ -405,6 +409,7 @@ pub(crate) fn run_passes(
     ensures few { IfOk result (λ found. length found.told.findings.items ≤ most_bytes) }
     ensures told { IfOk result (λ found. AreTold isa (source_lines text.now) found.told.findings.items) }
     ensures noted { IfOk result (λ found. with_notes ≡ true → AreNoted isa (source_lines text.now) found.told.notes.items) }
+    ensures given { IfOk result (λ found. value_in found.plan.names ≡ given_names isa (source_lines text.now)) }
     ensures made { IfOk result (λ found. NothingTold isa (source_lines text.now) →
         IsFound isa (source_lines text.now) (planned found.plan) found.cells.items) }
 {
@@ -423,17 +428,30 @@ pub(crate) fn run_passes(
     })
 }
 
+/// What is told of each line of a source, and the names that its lines give.
+#[derive(Drop)]
+pub struct Checked {
+    /// What is told of each line.
+    pub told: Told,
+    /// The names, those of faulty lines too, whose values then say nothing.
+    pub names: Symbols,
+}
+
 /// What is told of each line of a source of an instruction set of at most `MOST_BYTES` bytes: its first fault, or nothing, and an instruction in its
 /// comment. It fails only where memory is refused.
-pub fn check(alloc: Global, isa: Isa, text: &[u8]) -> Result<Told, AsmFault>
+pub fn check(alloc: Global, isa: Isa, text: &[u8]) -> Result<Checked, AsmFault>
     requires { length text.now ≤ most_bytes }
-    ensures told { IfOk result (λ told. AreTold isa (source_lines text.now) told.findings.items) }
-    ensures noted { IfOk result (λ told. AreNoted isa (source_lines text.now) told.notes.items) }
+    ensures told { IfOk result (λ checked. AreTold isa (source_lines text.now) checked.told.findings.items) }
+    ensures noted { IfOk result (λ checked. AreNoted isa (source_lines text.now) checked.told.notes.items) }
+    ensures given { IfOk result (λ checked. value_in checked.names ≡ given_names isa (source_lines text.now)) }
     ensures agrees { AgreesWithFaults isa (source_lines text.now) }
     ensures memory { IfErr result (λ fault. fault ≡ AsmFault.NoMemory) }
 {
     match run_passes(alloc, isa, text, true) {
-        Ok(found) => Ok(found.told),
+        Ok(found) => Ok(Checked {
+            told: found.told,
+            names: found.plan.names,
+        }),
         Err(_) => Err(AsmFault::NoMemory),
     }
 }

@@ -1,5 +1,6 @@
 use Rattle.std.proofs.Common.{◌≡◌, ◌+◌, length, drop, sym, ap, subst, ◌∙◌, arith}
 use Rattle.std.proofs.lemmas.List.{length_push}
+use Rattle.asm_lex.specs.Names.{value_in}
 use Rattle.asm_core.specs.Passes.{planned, LaysOut}
 use Rattle.asm_core.specs.Sources.{source_lines}
 use Rattle.asm_core.specs.Told.{Seen, seen_at, told_1, note_at, IsEachOf}
@@ -50,5 +51,7 @@ returns c =
       told = subst (λ n. IsEachOf (told_1 isa source) n first.told.findings.items) all surveyed.told;
       noted = λ wanted. subst (λ n. IsEachOf (note_at isa source) n first.told.notes.items) all (surveyed.noted wanted);
       faulty = subst (λ n. first.faulty ≡ (seen_at isa source n).faulty) all (ap (λ (s : Seen). s.faulty) surveyed.seen.is);
+      given =
+          subst (λ n. value_in first.plan.names ≡ (seen_at isa source n).known.names) all (ap (λ (s : Seen). s.known.names) surveyed.seen.is);
       plan = λ clean. subst (λ n. LaysOut isa source n (planned first.plan)) all (surveyed.plan clean);
     }

@@ -1,0 +1,77 @@
+-- What is told of the operands of a line one by one. It hangs on the line and on which names are given, and on no address and no value of a name: so
+-- it stays whatever other lines are mended to, while they give the same names.
+use Rattle.std.specs.Prelude.{◌==◌, ◌/◌, ◌&&◌, ◌||◌, ℕ, Bool, true, false, not, List, [], ◌∷◌, nat_le, if◌then◌else◌, Option, None, Some, option_map, Result, Ok, Err}
+use Rattle.std.specs.List.{list_any}
+use Rattle.std.specs.Option.{option_or}
+use Rattle.asm_lex.specs.declared.culprit.Sought.TheVariants.{NotGiven}
+use Rattle.asm_lex.specs.declared.shape.Isa.{Isa}
+use Rattle.asm_lex.specs.declared.shape.Place.{Place}
+use Rattle.asm_lex.specs.declared.shape.Span.{Span}
+use Rattle.asm_lex.specs.declared.shape.ValueFault.{ValueFault}
+use Rattle.asm_lex.specs.declared.shape.ValueFault.TheVariants as value
+use Rattle.asm_lex.specs.declared.shape.Word.TheVariants.{Db}
+use Rattle.asm_lex.specs.declared.words.Entry.{Entry}
+use Rattle.asm_lex.specs.declared.words.Entry.TheVariants.{Directive, Mnemonic}
+use Rattle.asm_lex.specs.Culprits.{is_sought, first_term}
+use Rattle.asm_lex.specs.Names.{Names}
+use Rattle.asm_lex.specs.Operands.{is_unread, is_number_at}
+use Rattle.asm_lex.specs.Places.{place_of}
+use Rattle.asm_lex.specs.Spans.{text_at}
+use Rattle.asm_lex.specs.Words.{size_at}
+use Rattle.asm_core.specs.declared.fault.AsmCause.{AsmCause}
+use Rattle.asm_core.specs.declared.fault.AsmCause.TheVariants.{BadText, BadOperand, Range, Undefined}
+use Rattle.asm_core.specs.declared.findings.Finding.{Finding}
+use Rattle.asm_core.specs.Names.{operand_value}
+
+abbrev pub found_at : AsmCause → Place → Finding
+found_at cause place = record { cause = cause; place = place }
+
+-- the greatest number that any instruction with such an entry takes: a byte, but for a branch, and DB's
+abbrev pub most_of : Entry → ℕ
+most_of (Mnemonic opcode) = if (size_at opcode == 2) && not (opcode / 16 == 3) then 255 else 65535
+most_of (Directive Db) = 255
+most_of _ = 65535
+
+-- a number is out of its range that has no name and no address in it
+abbrev pub is_range : Result ℕ ValueFault → Bool
+is_range (Ok value) = false
+is_range (Err value.Undefined) = false
+is_range (Err value.Range) = true
+
+unfoldable pub is_outside : Isa → Names → Entry → List ℕ → Bool
+is_outside isa none entry text = not (list_any (λ byte. byte == 36) text) && is_range (operand_value isa none 0 (most_of entry) text)
+
+-- what is told of a number: a name that is none of those that are given, or that it is out of its range
+abbrev pub if_outside : Bool → Span → Option Finding
+if_outside outside span = if outside then Some (found_at Range (place_of span)) else None
+
+abbrev pub number_finding : Isa → Names → Names → List ℕ → Entry → Span → Option Finding
+number_finding isa none given line entry span =
+    option_or (option_map (found_at Undefined) (first_term (is_sought isa given NotGiven) line (span ∷ [])))
+    (if_outside (is_outside isa none entry (text_at line span)) span)
+
+-- an operand that can't be read whatever names stand for, or a number
+unfoldable pub operand_finding : Isa → Names → Names → List ℕ → Entry → ℕ → Span → Option Finding
+operand_finding isa none given line entry k span =
+    if is_unread isa none entry k (text_at line span) then Some (found_at BadOperand (place_of span))
+    else if is_number_at isa none entry k (text_at line span) then number_finding isa none given line entry span
+    else None
+
+-- the rest of a line is judged beside a fault that is told of it, unless that is of its bytes or its names
+abbrev pub is_judged : AsmCause → Bool
+is_judged BadText = false
+is_judged _ = true
+
+-- a place isn't that of the fault that is told, and has no byte of it
+abbrev pub is_apart : Option Finding → Place → Bool
+is_apart None place = true
+is_apart (Some told) place =
+    is_judged told.cause && (not (place.from == told.place.from) && (nat_le place.to told.place.from || nat_le told.place.to place.from))
+
+abbrev pub if_apart : Option Finding → Option Finding → Option Finding
+if_apart told None = None
+if_apart told (Some found) = if is_apart told found.place then Some found else None
+
+-- what is told of an operand beside the fault of its line
+unfoldable pub further_finding : Isa → Names → Names → List ℕ → Entry → ℕ → Span → Option Finding → Option Finding
+further_finding isa none given line entry k span told = if_apart told (operand_finding isa none given line entry k span)
