@@ -40,7 +40,7 @@ abbrev bare : List (List ℕ)
 bare = codes "IDL" ∷ codes "LDX" ∷ codes "LDXA" ∷ codes "STXD" ∷ codes "IRX" ∷ codes "RET" ∷ codes "DIS" ∷ codes "SAV" ∷ codes "MARK" ∷ codes "REQ" ∷ codes "SEQ" ∷ codes "NOP" ∷ codes "ADC" ∷ codes "ADD" ∷ codes "SDB" ∷ codes "SD" ∷ codes "SMB" ∷ codes "SM" ∷ codes "OR" ∷ codes "AND" ∷ codes "XOR" ∷ codes "SHR" ∷ codes "SHRC" ∷ codes "SHL" ∷ codes "SHLC" ∷ codes "SKP" ∷ codes "LSKP" ∷ codes "LSQ" ∷ codes "LSNQ" ∷ codes "LSZ" ∷ codes "LSNZ" ∷ codes "LSDF" ∷ codes "LSNF" ∷ codes "LSIE" ∷ []
 
 -- those that take a register
-abbrev registers : List (List ℕ)
+abbrev pub registers : List (List ℕ)
 registers = codes "LDN" ∷ codes "LDA" ∷ codes "STR" ∷ codes "INC" ∷ codes "DEC" ∷ codes "GLO" ∷ codes "GHI" ∷ codes "PLO" ∷ codes "PHI" ∷ codes "SEP" ∷ codes "SEX" ∷ []
 
 -- those that take a port

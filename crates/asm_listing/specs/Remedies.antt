@@ -2,20 +2,22 @@
 use Rattle.std.specs.Prelude.{◌+◌, ◌-◌, ◌*◌, ◌%◌, ◌==◌, ◌&&◌, ◌||◌, ℕ, Bool, true, false, List, [], ◌∷◌, ◌++◌, length, take, drop, find, fold, flat_map, codes, slice_index, slice_get, min, nat_le, nat_lt, if◌then◌else◌, Option, None, Some, is_some, option_map, option_and_then, unwrap_or}
 use Rattle.std.specs.List.{list_all, list_any}
 use Rattle.std.specs.Option.{option_map_or, option_or}
-use Rattle.std.specs.Str.{str_eq_ignore_ascii_case}
+use Rattle.std.specs.Str.{str_eq_ignore_ascii_case, str_to_ascii_lowercase, str_to_ascii_uppercase}
 use Rattle.std.specs.Char.{is_ascii_digit, is_ascii_hexdigit}
 use Rattle.vip_byte.specs.HexText.{hex2, hex4}
 use Rattle.asm_lex.specs.declared.shape.Isa.{Isa}
 use Rattle.asm_lex.specs.Bytes.{is_name}
+use Rattle.asm_lex.specs.declared.shape.Isa.TheVariants.{Cdp1802, Chip8}
 use Rattle.asm_lex.specs.Culprits.{missing_colon}
+use Rattle.asm_lex.specs.Names.{Names, number_named}
 use Rattle.asm_lex.specs.Parts.{code_of}
 use Rattle.asm_lex.specs.Places.{word_span, operand_spans}
 use Rattle.asm_lex.specs.Spans.{text_at}
 use Rattle.asm_core.specs.declared.fault.AsmCause.{AsmCause}
-use Rattle.asm_core.specs.declared.fault.AsmCause.TheVariants.{BadText, UnknownMnemonic}
+use Rattle.asm_core.specs.declared.fault.AsmCause.TheVariants.{BadText, UnknownMnemonic, BadOperand, Undefined}
 use Rattle.asm_listing.specs.declared.habits.Class.{Class}
 use Rattle.asm_listing.specs.declared.habits.Class.TheVariants.{Any, Hexadecimal, HexNumber, HexDigit, Digit, Port, Decimal, Binary, Character, Name, Number}
-use Rattle.asm_listing.specs.Habits.{Row, Shape, Words, Between, Holds, rows, octo_rows}
+use Rattle.asm_listing.specs.Habits.{Row, Shape, Words, Between, Holds, registers, rows, octo_rows}
 
 -- the bytes of which a class of texts is made
 abbrev pub is_digit_of : Class → ℕ → Bool
@@ -167,6 +169,29 @@ abbrev pub other_remedy : Isa → AsmCause → List ℕ → List ℕ → Option 
 other_remedy isa BadText line text = not_ascii text
 other_remedy isa UnknownMnemonic line text = label_text text (missing_colon isa line)
 other_remedy isa _ line text = None
+
+-- a name that stands for the number of a register, where a register is due
+abbrev pub register_text : Option ℕ → Option (List ℕ)
+register_text None = None
+register_text (Some number) = if nat_lt number 16 then Some (codes "registers have no names here: R" ++ last_of (hex2 number)) else None
+
+abbrev pub register_named : Isa → Names → List ℕ → List ℕ → Option (List ℕ)
+register_named Cdp1802 given word text = if is_one_of registers word then register_text (number_named given text) else None
+register_named Chip8 given word text = None
+
+-- a name that isn't given, but is so in capitals or in small letters
+abbrev pub if_given : Names → List ℕ → Option (List ℕ)
+if_given given text = if is_some (given text) then Some (text ++ codes ", as it is written there") else None
+
+abbrev pub as_written : Names → List ℕ → Option (List ℕ)
+as_written given text =
+    if is_some (given text) then None else option_or (if_given given (str_to_ascii_uppercase text)) (if_given given (str_to_ascii_lowercase text))
+
+-- by the names that the lines of the source give
+abbrev pub named_remedy : Isa → Names → AsmCause → List ℕ → List ℕ → Option (List ℕ)
+named_remedy isa given BadOperand line text = register_named isa given (word_in line) text
+named_remedy isa given Undefined line text = as_written given text
+named_remedy isa given _ line text = None
 
 -- the remedy of a culprit of a line
 unfoldable pub remedy : Isa → AsmCause → List ℕ → List ℕ → Option (List ℕ)

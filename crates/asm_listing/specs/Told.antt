@@ -1,20 +1,28 @@
 -- The text of every fault of a source.
-use Rattle.std.specs.Prelude.{◌+◌, ◌&&◌, ℕ, Bool, false, List, [], ◌∷◌, ◌++◌, length, drop, flat_map, codes, decimal, min, nat_le, slice_index, slice_range, if◌then◌else◌, Option, Some, is_some}
+use Rattle.std.specs.Prelude.{◌+◌, ◌&&◌, ℕ, Bool, false, List, [], ◌∷◌, ◌++◌, length, drop, flat_map, codes, decimal, min, nat_le, slice_index, slice_index_or, slice_range, if◌then◌else◌, Option, None, Some, is_some}
 use Rattle.std.specs.List.{count_by, list_any, range_with_len}
-use Rattle.std.specs.Option.{option_map_or}
+use Rattle.std.specs.Option.{option_map_or, option_or}
 use Rattle.vip_byte.specs.HexText.{hex2}
 use Rattle.asm_lex.specs.declared.shape.Isa.{Isa}
 use Rattle.asm_lex.specs.declared.shape.Place.{Place}
+use Rattle.asm_lex.specs.declared.shape.Span.{Span}
 use Rattle.asm_core.specs.declared.findings.Finding.{Finding}
 use Rattle.asm_core.specs.FaultNames.{asm_cause_name}
 use Rattle.asm_core.specs.Sources.{line_at}
-use Rattle.asm_core.specs.Told.{told, note_at}
+use Rattle.asm_core.specs.Culprits.{spans_of}
+use Rattle.asm_core.specs.Operands.{further_finding}
+use Rattle.asm_core.specs.Told.{given_names, told, note_at}
+use Rattle.asm_lex.specs.declared.words.Entry.{Entry}
+use Rattle.asm_lex.specs.Names.{Names}
+use Rattle.asm_lex.specs.Operands.{line_entry}
+use Rattle.asm_listing.specs.declared.report_text.Part.{Part}
+use Rattle.asm_listing.specs.declared.report_text.Part.TheVariants.{Faults, Rest}
 use Rattle.vip_byte.specs.Text.{newline}
 use Rattle.asm_lex.specs.Bytes.{is_semicolon}
 use Rattle.asm_lex.specs.Parts.{code_of}
 use Rattle.asm_lex.specs.Places.{word_span}
 use Rattle.asm_listing.specs.Comments.{has_comment, is_noted, noted_words, other_note}
-use Rattle.asm_listing.specs.Remedies.{remedy, is_octo}
+use Rattle.asm_listing.specs.Remedies.{named_remedy, remedy, is_octo}
 
 -- bytes as they stand, those outside 20 to 7E as \xC3
 abbrev pub shown_byte : ℕ → List ℕ
@@ -40,11 +48,30 @@ start_at line place = min place.from (min place.to (length line))
 abbrev pub bytes_at : List ℕ → Place → List ℕ
 bytes_at line place = slice_range line (start_at line place) (min place.to (length line))
 
-abbrev pub finding_text : Isa → List ℕ → ℕ → List ℕ → Finding → List ℕ
-finding_text isa name number line finding =
+-- Below, `given` are the names that the lines of the source give.
+abbrev pub finding_text : Isa → Names → List ℕ → ℕ → List ℕ → Finding → List ℕ
+finding_text isa given name number line finding =
     let culprit = bytes_at line finding.place in
     let from = start_at line finding.place in
-    line_text name number (from + 1) (asm_cause_name finding.cause) culprit (remedy isa finding.cause line culprit)
+    line_text name number (from + 1) (asm_cause_name finding.cause) culprit
+    (option_or (named_remedy isa given finding.cause line culprit) (remedy isa finding.cause line culprit))
+
+-- what is told of the operands of a line, one by one, beside its fault
+abbrev pub no_span : Span
+no_span = record { from = 0; to = 0 }
+
+abbrev pub operand_text : Isa → Names → List ℕ → ℕ → List ℕ → Option Finding → Entry → List Span → ℕ → List ℕ
+operand_text isa given name number line told entry spans k =
+    option_map_or (finding_text isa given name number line)
+    (further_finding isa (λ name. None) given line entry k (slice_index_or spans k no_span) told) []
+
+abbrev pub entry_text : Isa → Names → List ℕ → ℕ → List ℕ → Option Finding → List Span → Entry → List ℕ
+entry_text isa given name number line told spans entry =
+    flat_map (operand_text isa given name number line told entry spans) (range_with_len 0 (length spans))
+
+unfoldable pub operands_text : Isa → Names → List ℕ → ℕ → List ℕ → Option Finding → List ℕ
+operands_text isa given name number line told =
+    if nat_le (length line) 255 then option_map_or (entry_text isa given name number line told (spans_of line)) (line_entry isa line) [] else []
 
 -- an instruction in a comment
 abbrev pub note_text : List ℕ → ℕ → List ℕ → Place → List ℕ
@@ -76,15 +103,27 @@ abbrev pub notes_text : Isa → List ℕ → ℕ → List ℕ → Option Place �
 notes_text isa name number line note =
     option_map_or (note_text name number line) (other_note isa line note) [] ++ comment_notes isa name number line
 
--- what is told of one line: its fault, and behind it its notes
-unfoldable pub told_text : Isa → List ℕ → ℕ → List ℕ → Option Finding → Option Place → List ℕ
-told_text isa name number line finding note =
-    option_map_or (finding_text isa name number line) finding [] ++ notes_text isa name number line note
+-- What is told of one line: its fault, behind it those of its other operands, and behind them its notes.
+abbrev pub fault_text : Isa → Names → List ℕ → ℕ → List ℕ → Option Finding → List ℕ
+fault_text isa given name number line None = []
+fault_text isa given name number line (Some finding) =
+    finding_text isa given name number line finding ++ operands_text isa given name number line (Some finding)
+
+-- The rest is what is told of the operands of a line without such a fault.
+abbrev pub rest_text : Isa → Names → List ℕ → ℕ → List ℕ → Option Finding → List ℕ
+rest_text isa given name number line None = operands_text isa given name number line None
+rest_text isa given name number line (Some finding) = []
+
+unfoldable pub told_text : Isa → Names → Part → List ℕ → ℕ → List ℕ → Option Finding → Option Place → List ℕ
+told_text isa given Faults name number line finding note =
+    fault_text isa given name number line finding ++ notes_text isa name number line note
+told_text isa given Rest name number line finding _ = rest_text isa given name number line finding
 
 -- of all lines, in their order
-unfoldable pub told_lines : Isa → List ℕ → List (List ℕ) → List ℕ
-told_lines isa name source =
-    flat_map (λ i. told_text isa name (i + 1) (line_at source i) (told isa source i) (note_at isa source i)) (range_with_len 0 (length source))
+unfoldable pub told_lines : Isa → Part → List ℕ → List (List ℕ) → List ℕ
+told_lines isa part name source =
+    flat_map (λ i. told_text isa (given_names isa source) part name (i + 1) (line_at source i) (told isa source i) (note_at isa source i))
+    (range_with_len 0 (length source))
 
 -- how many of the first lines have a fault that is a statement of Octo
 abbrev pub is_octo_told : Isa → List ℕ → Option Finding → Bool
@@ -98,9 +137,14 @@ abbrev pub octo_text : List ℕ → ℕ → List ℕ
 octo_text name count =
     if nat_le 10 count then name ++ (codes ": this looks like Octo: see docs/FIRST_CHIP8.md, From Octo" ++ newline) else []
 
-unfoldable pub report_of : Isa → List ℕ → List (List ℕ) → List ℕ
-report_of isa name source = told_lines isa name source ++ octo_text name (octo_count isa source (length source))
-
 -- a fault is told of some line
 abbrev pub has_told : Isa → List (List ℕ) → Bool
 has_told isa source = list_any (λ i. is_some (told isa source i)) (range_with_len 0 (length source))
+
+-- So the first fault that is told is the first one of `told`, and where that has none no fault is told.
+abbrev pub rest_lines : Isa → Bool → List ℕ → List (List ℕ) → List ℕ
+rest_lines isa faulty name source = if faulty then told_lines isa Rest name source else []
+
+unfoldable pub report_of : Isa → List ℕ → List (List ℕ) → List ℕ
+report_of isa name source =
+    told_lines isa Faults name source ++ (rest_lines isa (has_told isa source) name source ++ octo_text name (octo_count isa source (length source)))

@@ -64,7 +64,7 @@ const BARE: &[&str] = &["IDL", "LDX", "LDXA", "STXD", "IRX", "RET", "DIS", "SAV"
 
 /// Those that take a register.
 #[rattlefmt::skip]
-const REGISTERS: &[&str] = &["LDN", "LDA", "STR", "INC", "DEC", "GLO", "GHI", "PLO", "PHI", "SEP", "SEX"];
+pub(crate) const REGISTERS: &[&str] = &["LDN", "LDA", "STR", "INC", "DEC", "GLO", "GHI", "PLO", "PHI", "SEP", "SEX"];
 
 /// Those that take a port.
 #[rattlefmt::skip]

@@ -6,13 +6,14 @@ ghost use Rattle.std.specs.Str.{str_eq_ignore_ascii_case};
 ghost use Rattle.vip_byte.specs.HexText.{hex2};
 ghost use Rattle.asm_lex.specs.Culprits.{missing_colon};
 ghost use Rattle.asm_listing.specs.Comments.{is_foreign};
-ghost use Rattle.asm_listing.specs.Habits.{row_of, shape_of, rows, octo_rows};
-ghost use Rattle.asm_listing.specs.Remedies.{is_digit_of, are_digits, begins_decimal, before_last, last_of, is_nought, is_one_digit, is_of, begins, behind_of, behind_opening, before_closing, holds, is_one_of, some_if, between, found, is_after, fits, binary_value, binary_text, piece, said, row_that_fits, habit, word_in, first_operand, habit_in, is_octo, label_text, not_ascii, other_remedy, remedy};
+ghost use Rattle.asm_lex.specs.Names.{value_in, number_named};
+ghost use Rattle.asm_listing.specs.Habits.{row_of, shape_of, registers, rows, octo_rows};
+ghost use Rattle.asm_listing.specs.Remedies.{is_digit_of, are_digits, begins_decimal, before_last, last_of, is_nought, is_one_digit, is_of, begins, behind_of, behind_opening, before_closing, holds, is_one_of, some_if, between, found, is_after, fits, binary_value, binary_text, piece, said, row_that_fits, habit, word_in, first_operand, habit_in, is_octo, label_text, not_ascii, other_remedy, register_text, register_named, if_given, as_written, named_remedy, remedy};
 
-use crate::habits::{Class, Row, Shape, octo_rows, rows};
+use crate::habits::{Class, REGISTERS, Row, Shape, octo_rows, rows};
 use crate::write::{append, join};
 use asm_core::AsmCause;
-use asm_lex::{Isa, is_label, line_spans, missing_colon, text_at};
+use asm_lex::{Isa, Symbols, is_label, line_spans, missing_colon, text_at};
 use std::alloc::{AllocError, Global};
 use vip_byte::{hex2, hex4};
 
@@ -445,6 +446,73 @@ fn other_remedy(alloc: Global, isa: Isa, cause: AsmCause, line: &[u8], text: &[u
     match cause {
         AsmCause::BadText => ascii_remedy(alloc, text),
         AsmCause::UnknownMnemonic => label_remedy(alloc, isa, line, text),
+        _ => Ok(None),
+    }
+}
+
+fn register_text(alloc: Global, number: Option<u16>) -> Remedy
+    ensures { IfOk result (λ remedy. option_map (λ remedy. remedy.items) remedy ≡ register_text number) }
+{
+    match number {
+        Some(number) if number < 16 => {
+            let digits = hex2(number as u8);
+            let text = join(alloc, b"registers have no names here: R", last_of(&digits))?;
+            Ok(Some(text))
+        }
+        _ => Ok(None),
+    }
+}
+
+// A name that stands for the number of a register, where a register is due.
+fn register_named(alloc: Global, isa: Isa, given: &Symbols, word: &[u8], text: &[u8]) -> Remedy
+    ensures { IfOk result (λ remedy. option_map (λ remedy. remedy.items) remedy ≡ register_named isa (value_in given.now) word.now text.now) }
+{
+    match isa {
+        Isa::Cdp1802 if is_one_of(REGISTERS, word) => register_text(alloc, given.number(text)),
+        _ => Ok(None),
+    }
+}
+
+fn if_given(alloc: Global, given: &Symbols, text: &[u8]) -> Remedy
+    ensures { IfOk result (λ remedy. option_map (λ remedy. remedy.items) remedy ≡ if_given (value_in given.now) text.now) }
+{
+    if given.get(text).is_none() {
+        return Ok(None);
+    }
+    Ok(Some(join(alloc, text, b", as it is written there")?))
+}
+
+// A name that isn't given, but is so in capitals or in small letters.
+fn as_written(alloc: Global, given: &Symbols, text: &[u8]) -> Remedy
+    ensures { IfOk result (λ remedy. option_map (λ remedy. remedy.items) remedy ≡ as_written (value_in given.now) text.now) }
+{
+    if given.get(text).is_some() {
+        return Ok(None);
+    }
+    let capitals = text.to_ascii_uppercase(alloc)?;
+    match if_given(alloc, given, capitals.as_slice())? {
+        Some(remedy) => Ok(Some(remedy)),
+        None => {
+            let small = text.to_ascii_lowercase(alloc)?;
+            if_given(alloc, given, small.as_slice())
+        }
+    }
+}
+
+/// The remedy of a culprit of a line by the names that the lines of its source give, where there is one.
+pub(crate) fn named_remedy(
+    alloc: Global,
+    isa: Isa,
+    given: &Symbols,
+    cause: AsmCause,
+    line: &[u8],
+    text: &[u8],
+) -> Remedy
+    ensures { IfOk result (λ remedy. option_map (λ remedy. remedy.items) remedy ≡ named_remedy isa (value_in given.now) cause line.now text.now) }
+{
+    match cause {
+        AsmCause::BadOperand => register_named(alloc, isa, given, word_in(line), text),
+        AsmCause::Undefined => as_written(alloc, given, text),
         _ => Ok(None),
     }
 }

@@ -2,17 +2,20 @@
 
 ghost use Rattle.std.specs.Prelude.{◌≡◌, ◌++◌, ◌≤◌, ◌<◌, ℕ, List, [], length, slice_index_or, is_some, if◌then◌else◌, None, IfOk, IfErr, OnOk};
 ghost use Rattle.std.specs.List.{list_any};
-ghost use Rattle.std.specs.Option.{option_map, option_map_or};
+ghost use Rattle.std.specs.Option.{option_map, option_map_or, option_or};
 ghost use Rattle.asm_core.specs.Limits.{most_bytes};
 ghost use Rattle.asm_core.specs.Sources.{source_lines};
-ghost use Rattle.asm_core.specs.Told.{AreTold, AreNoted, AgreesWithFaults};
-ghost use Rattle.asm_listing.specs.Told.{shown_byte, shown, line_text, remark_text, start_at, bytes_at, finding_text, note_text, notes_text, told_text, told_lines, is_octo_told, octo_count, octo_text, report_of, has_told};
+ghost use Rattle.asm_lex.specs.Names.{value_in};
+ghost use Rattle.asm_lex.specs.Spans.{IsWithin, AreWithin};
+ghost use Rattle.asm_core.specs.Told.{AreTold, AreNoted, AgreesWithFaults, given_names};
+ghost use Rattle.asm_listing.specs.Remedies.{named_remedy, remedy};
+ghost use Rattle.asm_listing.specs.Told.{shown_byte, shown, line_text, remark_text, start_at, bytes_at, finding_text, no_span, entry_text, operands_text, note_text, notes_text, fault_text, rest_text, told_text, told_lines, is_octo_told, octo_count, octo_text, has_told, rest_lines, report_of};
 
 use crate::comments::{append_comment_notes, other_note};
-use crate::remedies::{is_octo, remedy};
+use crate::remedies::{is_octo, named_remedy, remedy};
 use crate::write::{append, append_each};
-use asm_core::{AsmFault, Finding, Told, check, next_line};
-use asm_lex::{Isa, Place};
+use asm_core::{AsmCause, AsmFault, Finding, Told, check, further_finding, next_line};
+use asm_lex::{Entry, Isa, Place, Span, Symbols, line_entry, line_spans};
 use itoa::Buffer as Digits;
 use std::alloc::{AllocError, Global};
 use vip_byte::hex2;
@@ -97,21 +100,40 @@ fn bytes_at(line: &[u8], place: Place) -> &[u8]
     &line[start_at(line, place)..place.to.min(line.len())]
 }
 
+// The remedy of a culprit, by the names that are given or by its habit.
+fn any_remedy(
+    alloc: Global,
+    isa: Isa,
+    given: &Symbols,
+    cause: AsmCause,
+    line: &[u8],
+    culprit: &[u8],
+) -> Result<Option<Vec<u8>>, AllocError>
+    ensures { IfOk result (λ found. option_map (λ found. found.items) found
+        ≡ option_or (named_remedy isa (value_in given.now) cause line.now culprit.now) (remedy isa cause line.now culprit.now)) }
+{
+    match named_remedy(alloc, isa, given, cause, line, culprit)? {
+        Some(remedy) => Ok(Some(remedy)),
+        None => remedy(alloc, isa, cause, line, culprit),
+    }
+}
+
 fn append_finding(
     alloc: Global,
     text: &mut Vec<u8>,
     isa: Isa,
+    given: &Symbols,
     name: &[u8],
     number: u32,
     line: &[u8],
     finding: Finding,
 ) -> Result<(), AllocError>
-    ensures { OnOk result (text.new.items ≡ text.old.items ++ finding_text isa name.now number line.now finding) }
+    ensures { OnOk result (text.new.items ≡ text.old.items ++ finding_text isa (value_in given.now) name.now number line.now finding) }
 {
     let from = start_at(line, finding.place);
     let culprit = bytes_at(line, finding.place);
     let says = finding.cause.name();
-    match remedy(alloc, isa, finding.cause, line, culprit)? {
+    match any_remedy(alloc, isa, given, finding.cause, line, culprit)? {
         Some(remedy) => {
             let remark = Some(remedy.as_slice());
             append_line(alloc, text, name, number, from + 1, says, culprit, remark)
@@ -146,20 +168,124 @@ fn append_note(
     )
 }
 
-fn append_fault(
+fn append_finding_of(
     alloc: Global,
     text: &mut Vec<u8>,
     isa: Isa,
+    given: &Symbols,
     name: &[u8],
     number: u32,
     line: &[u8],
     finding: Option<Finding>,
 ) -> Result<(), AllocError>
-    ensures { OnOk result (text.new.items ≡ text.old.items ++ option_map_or (finding_text isa name.now number line.now) finding []) }
+    ensures { OnOk result (text.new.items ≡ text.old.items
+        ++ option_map_or (finding_text isa (value_in given.now) name.now number line.now) finding []) }
 {
     match finding {
-        Some(finding) => append_finding(alloc, text, isa, name, number, line, finding),
+        Some(finding) => append_finding(alloc, text, isa, given, name, number, line, finding),
         None => Ok(()),
+    }
+}
+
+fn span_at(line: &[u8], spans: &[Span], k: usize) -> Span
+    requires inside { k < length spans.now }
+    requires within { AreWithin line.now spans.now }
+    ensures span { result ≡ slice_index_or spans.now k no_span }
+    ensures within { IsWithin line.now result }
+{
+    spans[k]
+}
+
+// What is told of the operands of a line whose word has this entry, beside its fault.
+fn append_entry(
+    alloc: Global,
+    text: &mut Vec<u8>,
+    isa: Isa,
+    given: &Symbols,
+    name: &[u8],
+    number: u32,
+    line: &[u8],
+    told: Option<Finding>,
+    spans: &[Span],
+    entry: Entry,
+) -> Result<(), AllocError>
+    requires within { AreWithin line.now spans.now }
+    requires short { length line.now ≤ 255 }
+    ensures { OnOk result (text.new.items ≡ text.old.items ++ entry_text isa (value_in given.now) name.now number line.now told spans.now entry) }
+{
+    let none = Symbols::new(alloc);
+    for k in 0..spans.len() {
+        let span = span_at(line, spans, k);
+        let found = further_finding(isa, &none, given, line, entry, k, span, told);
+        append_finding_of(alloc, text, isa, given, name, number, line, found)?;
+    }
+    Ok(())
+}
+
+#[tactic(auto, unfolding(crate::specs::Told::operands_text))]
+fn append_operands(
+    alloc: Global,
+    text: &mut Vec<u8>,
+    isa: Isa,
+    given: &Symbols,
+    name: &[u8],
+    number: u32,
+    line: &[u8],
+    told: Option<Finding>,
+) -> Result<(), AllocError>
+    ensures { OnOk result (text.new.items ≡ text.old.items ++ operands_text isa (value_in given.now) name.now number line.now told) }
+{
+    if line.len() > 255 {
+        return Ok(());
+    }
+    let spans = line_spans(line);
+    let operands = spans.operands.as_slice();
+    match line_entry(isa, line) {
+        Some(entry) => append_entry(
+            alloc, text, isa, given, name, number, line, told, operands, entry,
+        ),
+        None => Ok(()),
+    }
+}
+
+// The fault of a line, if it is told, and behind it those of its other operands.
+fn append_fault(
+    alloc: Global,
+    text: &mut Vec<u8>,
+    isa: Isa,
+    given: &Symbols,
+    name: &[u8],
+    number: u32,
+    line: &[u8],
+    told: Option<Finding>,
+) -> Result<(), AllocError>
+    ensures { OnOk result (text.new.items ≡ text.old.items ++ fault_text isa (value_in given.now) name.now number line.now told) }
+{
+    match told {
+        Some(finding) => {
+            append_finding(alloc, text, isa, given, name, number, line, finding)?;
+            append_operands(alloc, text, isa, given, name, number, line, told)
+        }
+        None => Ok(()),
+    }
+}
+
+// What is told of the operands of a line that has no such fault.
+fn append_rest(
+    alloc: Global,
+    text: &mut Vec<u8>,
+    isa: Isa,
+    given: &Symbols,
+    name: &[u8],
+    number: u32,
+    line: &[u8],
+    told: Option<Finding>,
+) -> Result<(), AllocError>
+    ensures { OnOk result (text.new.items ≡ text.old.items ++ rest_text isa (value_in given.now) name.now number line.now told) }
+{
+    match told {
+        Some(_) => Ok(()),
+        None => append_operands(alloc, text, isa, given, name, number, line, told),
     }
 }
 
@@ -196,22 +322,38 @@ fn append_notes(
     append_comment_notes(alloc, text, isa, name, number, line)
 }
 
-// The fault of one line, if it is told, and behind it its notes.
+/// The parts of the text, each of which goes over all lines.
+#[derive(Clone, Copy)]
+enum Part {
+    /// The faulty lines, and the notes.
+    Faults,
+    /// What is told of the lines that have none of those faults.
+    Rest,
+}
+
+// What a part tells of one line.
 #[tactic(auto, unfolding(crate::specs::Told::told_text))]
 fn append_told(
     alloc: Global,
     text: &mut Vec<u8>,
     isa: Isa,
+    given: &Symbols,
+    part: Part,
     name: &[u8],
     number: u32,
     line: &[u8],
-    finding: Option<Finding>,
+    told: Option<Finding>,
     note: Option<Place>,
 ) -> Result<(), AllocError>
-    ensures { OnOk result (text.new.items ≡ text.old.items ++ told_text isa name.now number line.now finding note) }
+    ensures { OnOk result (text.new.items ≡ text.old.items ++ told_text isa (value_in given.now) part name.now number line.now told note) }
 {
-    append_fault(alloc, text, isa, name, number, line, finding)?;
-    append_notes(alloc, text, isa, name, number, line, note)
+    match part {
+        Part::Faults => {
+            append_fault(alloc, text, isa, given, name, number, line, told)?;
+            append_notes(alloc, text, isa, name, number, line, note)
+        }
+        Part::Rest => append_rest(alloc, text, isa, given, name, number, line, told),
+    }
 }
 
 /// What is told of a source.
@@ -231,9 +373,12 @@ fn told_at<T: Copy>(told: &[Option<T>], index: usize) -> Option<T>
     told[index]
 }
 
+// What a part tells of all lines.
 fn text_of(
     alloc: Global,
     isa: Isa,
+    given: &Symbols,
+    part: Part,
     name: &[u8],
     text: &[u8],
     told: &Told,
@@ -241,7 +386,8 @@ fn text_of(
     requires text { length text.now ≤ most_bytes }
     requires told { AreTold isa (source_lines text.now) told.now.findings.items }
     requires noted { AreNoted isa (source_lines text.now) told.now.notes.items }
-    ensures { IfOk result (λ report. report.items ≡ told_lines isa name.now (source_lines text.now)) }
+    requires given { value_in given.now ≡ given_names isa (source_lines text.now) }
+    ensures { IfOk result (λ report. report.items ≡ told_lines isa part name.now (source_lines text.now)) }
 {
     let findings = told.findings.as_slice();
     let notes = told.notes.as_slice();
@@ -255,6 +401,8 @@ fn text_of(
             alloc,
             &mut report,
             isa,
+            given,
+            part,
             name,
             number + 1,
             line,
@@ -319,25 +467,6 @@ fn append_octo(text: &mut Vec<u8>, name: &[u8], count: u32) -> Result<(), AllocE
     }
 }
 
-// What is told of all lines, and behind it that they look like Octo's.
-#[tactic(auto, unfolding(crate::specs::Told::report_of))]
-fn whole_text(
-    alloc: Global,
-    isa: Isa,
-    name: &[u8],
-    text: &[u8],
-    told: &Told,
-) -> Result<Vec<u8>, AllocError>
-    requires text { length text.now ≤ most_bytes }
-    requires told { AreTold isa (source_lines text.now) told.now.findings.items }
-    requires noted { AreNoted isa (source_lines text.now) told.now.notes.items }
-    ensures { IfOk result (λ report. report.items ≡ report_of isa name.now (source_lines text.now)) }
-{
-    let mut report = text_of(alloc, isa, name, text, told)?;
-    append_octo(&mut report, name, octo_count(isa, text, told))?;
-    Ok(report)
-}
-
 fn is_any_told(found: &[Option<Finding>]) -> bool
     ensures { result ≡ list_any (λ finding. is_some finding) found.now }
 {
@@ -350,6 +479,54 @@ fn has_told(found: &[Option<Finding>]) -> bool
     is_any_told(found)
 }
 
+// What is told of the lines that have none of the faults of the first part, where one is faulty.
+fn rest_of(
+    alloc: Global,
+    isa: Isa,
+    given: &Symbols,
+    name: &[u8],
+    text: &[u8],
+    told: &Told,
+    faulty: bool,
+) -> Result<Vec<u8>, AllocError>
+    requires text { length text.now ≤ most_bytes }
+    requires told { AreTold isa (source_lines text.now) told.now.findings.items }
+    requires noted { AreNoted isa (source_lines text.now) told.now.notes.items }
+    requires given { value_in given.now ≡ given_names isa (source_lines text.now) }
+    ensures { IfOk result (λ rest. rest.items ≡ rest_lines isa faulty name.now (source_lines text.now)) }
+{
+    if faulty {
+        text_of(alloc, isa, given, Part::Rest, name, text, told)
+    } else {
+        Ok(Vec::new(alloc))
+    }
+}
+
+// What is told of all lines, and behind it that they look like Octo's.
+#[tactic(auto, unfolding(crate::specs::Told::report_of))]
+fn whole_text(
+    alloc: Global,
+    isa: Isa,
+    given: &Symbols,
+    name: &[u8],
+    text: &[u8],
+    told: &Told,
+    faulty: bool,
+) -> Result<Vec<u8>, AllocError>
+    requires text { length text.now ≤ most_bytes }
+    requires told { AreTold isa (source_lines text.now) told.now.findings.items }
+    requires noted { AreNoted isa (source_lines text.now) told.now.notes.items }
+    requires given { value_in given.now ≡ given_names isa (source_lines text.now) }
+    requires faulty { faulty ≡ has_told isa (source_lines text.now) }
+    ensures { IfOk result (λ report. report.items ≡ report_of isa name.now (source_lines text.now)) }
+{
+    let mut report = text_of(alloc, isa, given, Part::Faults, name, text, told)?;
+    let mut rest = rest_of(alloc, isa, given, name, text, told, faulty)?;
+    append_octo(&mut rest, name, octo_count(isa, text, told))?;
+    append(&mut report, rest.as_slice())?;
+    Ok(report)
+}
+
 /// Every fault of a source of at most `MOST_BYTES` bytes, as text, where the source's file has this name. It fails only where memory is refused.
 pub fn report(alloc: Global, isa: Isa, name: &[u8], text: &[u8]) -> Result<CheckText, AsmFault>
     requires { length text.now ≤ most_bytes }
@@ -358,12 +535,18 @@ pub fn report(alloc: Global, isa: Isa, name: &[u8], text: &[u8]) -> Result<Check
     ensures agrees { AgreesWithFaults isa (source_lines text.now) }
     ensures memory { IfErr result (λ fault. fault ≡ AsmFault.NoMemory) }
 {
-    let told = check(alloc, isa, text)?;
-    match whole_text(alloc, isa, name, text, &told) {
-        Ok(text) => Ok(CheckText {
-            text,
-            faulty: has_told(told.findings.as_slice()),
-        }),
+    let checked = check(alloc, isa, text)?;
+    let faulty = has_told(checked.told.findings.as_slice());
+    match whole_text(
+        alloc,
+        isa,
+        &checked.names,
+        name,
+        text,
+        &checked.told,
+        faulty,
+    ) {
+        Ok(text) => Ok(CheckText { text, faulty }),
         Err(_) => Err(AsmFault::NoMemory),
     }
 }
