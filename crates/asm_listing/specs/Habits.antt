@@ -7,6 +7,8 @@ use Rattle.asm_core.specs.declared.fault.AsmCause.TheVariants.{BadText, UnknownM
 use Rattle.asm_listing.specs.declared.habits.Row.{Row as Given}
 use Rattle.asm_listing.specs.declared.habits.Shape.{Shape as GivenShape}
 use Rattle.asm_listing.specs.declared.habits.Shape.TheVariants as given
+use Rattle.asm_listing.specs.declared.habits.After.{After}
+use Rattle.asm_listing.specs.declared.habits.After.TheVariants.{AnyWord, Bare, Registers, Ports, Bytes, Single, GameBytes, These}
 use Rattle.asm_listing.specs.declared.habits.Class.{Class}
 use Rattle.asm_listing.specs.declared.habits.Class.TheVariants.{Any, Hexadecimal, HexNumber, HexDigit, Digit, Port, Decimal, Binary, Character, Name, Number}
 
@@ -28,12 +30,6 @@ abbrev pub shape_of : GivenShape → Shape
 shape_of (given.Words words) = Words (map (λ word. word.now) words.now)
 shape_of (given.Between front class back) = Between front.now class back.now
 shape_of (given.Holds piece) = Holds piece.now
-
-abbrev pub row_of : Given → Row
-row_of row = record { after = map (λ word. word.now) row.after.now; shape = shape_of row.shape; behind = row.behind.now; says = row.says.now }
-
-abbrev row : List (List ℕ) → Shape → List ℕ → List ℕ → Row
-row after shape behind says = record { after = after; shape = shape; behind = behind; says = says }
 
 -- the words of the CDP1802 that take no operand
 abbrev bare : List (List ℕ)
@@ -58,6 +54,23 @@ single = codes "LDI" ∷ codes "ORI" ∷ codes "ANI" ∷ codes "XRI" ∷ codes "
 -- the words of CHIP-8 that take a byte
 abbrev game_bytes : List (List ℕ)
 game_bytes = codes "LD" ∷ codes "ADD" ∷ codes "SE" ∷ codes "SNE" ∷ codes "RND" ∷ codes "DB" ∷ []
+
+-- the words of a line in which the program seeks a row's habit; none for any
+abbrev pub words_of : After → List (List ℕ)
+words_of AnyWord = []
+words_of Bare = bare
+words_of Registers = registers
+words_of Ports = ports
+words_of Bytes = bytes
+words_of Single = single
+words_of GameBytes = game_bytes
+words_of (These words) = map (λ word. word.now) words.now
+
+abbrev pub row_of : Given → Row
+row_of row = record { after = words_of row.after; shape = shape_of row.shape; behind = row.behind.now; says = row.says.now }
+
+abbrev row : List (List ℕ) → Shape → List ℕ → List ℕ → Row
+row after shape behind says = record { after = after; shape = shape; behind = behind; says = says }
 
 -- of the words of other assemblers and processors
 unfoldable pub words : List Row

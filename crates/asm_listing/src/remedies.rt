@@ -10,7 +10,7 @@ ghost use Rattle.asm_lex.specs.Names.{value_in, number_named};
 ghost use Rattle.asm_listing.specs.Habits.{row_of, shape_of, registers, rows, octo_rows};
 ghost use Rattle.asm_listing.specs.Remedies.{is_digit_of, are_digits, begins_decimal, before_last, last_of, is_nought, is_one_digit, is_of, begins, behind_of, behind_opening, before_closing, holds, is_one_of, some_if, between, found, is_after, fits, binary_value, binary_text, piece, said, row_that_fits, habit, word_in, first_operand, habit_in, is_octo, label_text, not_ascii, other_remedy, register_text, register_named, if_given, as_written, named_remedy, remedy};
 
-use crate::habits::{Class, REGISTERS, Row, Shape, octo_rows, rows};
+use crate::habits::{Class, REGISTERS, Row, Shape, octo_rows, rows, words_of};
 use crate::write::{append, join};
 use asm_core::AsmCause;
 use asm_lex::{Isa, Symbols, is_label, line_spans, missing_colon, text_at};
@@ -226,7 +226,7 @@ fn is_after(words: &[&str], word: &[u8]) -> bool
 fn fits(isa: Isa, word: &[u8], first: &[u8], text: &[u8], row: Row) -> bool
     ensures { result ≡ fits isa word.now first.now text.now (row_of row) }
 {
-    is_after(row.after, word) && begins(row.behind, first) && has(isa, row.shape, text)
+    is_after(words_of(row.after), word) && begins(row.behind, first) && has(isa, row.shape, text)
 }
 
 // The first of some habits that fits.
