@@ -136,6 +136,10 @@ notes verb.Play = either_lines
 notes verb.Debug = either_lines ++ command_lines
 notes verb.Save = codes "FILE is a game for the interpreter, with --state a saved state, and with --asm a" ∷ codes "game's source in words of CHIP-8." ∷ []
 notes verb.Profile = either_lines
+notes verb.Timing =
+    codes "FILE is a source in words of the processor, and ENTRY a name or an address of a"
+    ∷ codes "routine in the ROM, from 8000 to 87FF. P is its program counter, K its counter."
+    ∷ []
 notes verb.Safe = codes "GAME is a game for the interpreter, and with --asm its source in words of CHIP-8." ∷ []
 notes verb.Certify = codes "GAME is a game for the interpreter, and with --asm its source in words of CHIP-8." ∷ []
 notes _ = []

@@ -177,6 +177,10 @@ impl Verb {
                 "FILE is a game for the interpreter, with --state a saved state, and with --asm a",
                 "game's source in words of CHIP-8.",
             ],
+            Verb::Timing => &[
+                "FILE is a source in words of the processor, and ENTRY a name or an address of a",
+                "routine in the ROM, from 8000 to 87FF. P is its program counter, K its counter.",
+            ],
             Verb::Safe | Verb::Certify => &[
                 "GAME is a game for the interpreter, and with --asm its source in words of CHIP-8.",
             ],
