@@ -1,5 +1,6 @@
 -- What is made of words, in a line: the first rule that they break, as a sentence, or what would be done, in the fields of the request.
 use Rattle.std.specs.Prelude.{ℕ, List, [], ◌++◌, Bool, ◌||◌, ◌==◌, if◌then◌else◌, Option, Some, None, codes, decimal}
+use Rattle.std.specs.Str.{is_utf8}
 use Rattle.std.specs.Fmt.{digits}
 use Rattle.std.specs.List.{ends_with}
 use Rattle.std.specs.Option.{option_map_or}
@@ -151,13 +152,18 @@ abbrev pub isa_text : Isa → List ℕ
 isa_text Cdp1802 = codes ", in words of the processor"
 isa_text Chip8 = codes ", in words of CHIP-8"
 
+-- A name that is given in bytes: all of it, since the words of a command line are UTF-8.
+abbrev pub name_text : List ℕ → List ℕ
+name_text name = text_if (is_utf8 name) name
+
 abbrev pub file_text : TextVerb → Word → List ℕ
 file_text (text.Asm isa raw) file = codes "asm of the source in " ++ (file ++ (isa_text isa ++ text_if raw (codes ", with --raw")))
 file_text (text.Check name isa) file = codes "check of the source in " ++ (file ++ isa_text isa)
 file_text (text.List isa) file = codes "list of the source in " ++ (file ++ isa_text isa)
 file_text (text.Dis place) file = codes "dis of the bytes in " ++ (file ++ (codes " from 0x" ++ (digits 16 false place.address ++ (codes " on" ++ isa_text place.isa))))
 file_text (text.Timing entry p k) file =
-    codes "timing of a routine of the source in " ++ (file ++ (codes ", with program counter " ++ (decimal p ++ (codes " and counter " ++ decimal k))))
+    codes "timing of the routine " ++ (name_text entry.name.items ++ (codes " of the source in " ++ (file ++ (codes ", with program counter " ++ (decimal p
+    ++ (codes " and counter " ++ decimal k))))))
 file_text (text.Digest limit) file = codes "digest of the games in " ++ (file ++ (codes ", each up to cycle " ++ decimal limit))
 
 abbrev pub built_in_name : BuiltIn → List ℕ

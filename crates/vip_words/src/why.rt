@@ -4,7 +4,7 @@ ghost use Rattle.std.specs.Prelude.{◌≡◌, IfOk, Some, codes, decimal, map, 
 ghost use Rattle.chip8_lang.specs.declared.view.Edition.{Edition};
 ghost use Rattle.vip_words.specs.Request.{asked_of, code_of, map_program, map_run, program_show_of, show_of, start_of};
 ghost use Rattle.vip_words.specs.Spelled.{broken_of, rule_of};
-ghost use Rattle.vip_words.specs.Why.{broken_text, built_in_name, code_hint, code_text, columns_text, due_text, file_text, game_text, hint, is_source_name, isa_text, keys_text, memory_text, own_name, plain_text, plain_verb, program_show_text, program_text, program_verb, refused_text, remark, request_text, rule_text, run_text, show_text, show_verb, start_hint, start_text, text_if, why_line};
+ghost use Rattle.vip_words.specs.Why.{broken_text, built_in_name, code_hint, code_text, columns_text, due_text, file_text, game_text, hint, is_source_name, isa_text, keys_text, memory_text, name_text, own_name, plain_text, plain_verb, program_show_text, program_text, program_verb, refused_text, remark, request_text, rule_text, run_text, show_text, show_verb, start_hint, start_text, text_if, why_line};
 
 use crate::broken::{Broken, Due, Rule, first_broken};
 use crate::given::WordsFail;
@@ -338,6 +338,16 @@ fn isa_text(isa: Isa) -> &'static str
     }
 }
 
+/// A name that is given in bytes: all of it, since the words of a command line are UTF-8.
+fn name_text(name: &[u8]) -> &str
+    ensures { result.now ≡ name_text name.now }
+{
+    match str::from_utf8(name) {
+        Ok(text) => text,
+        Err(_) => "",
+    }
+}
+
 /// A text that is made of a file.
 #[derive(Drop)]
 struct FileText<'a, 'b> {
@@ -372,10 +382,13 @@ impl fmt::Display for FileText<'_, '_> {
                 let address = place.address();
                 write!(f, "dis of the bytes in {file} from 0x{address:x} on{isa}")
             }
-            TextVerb::Timing { p, k, .. } => write!(
-                f,
-                "timing of a routine of the source in {file}, with program counter {p} and counter {k}"
-            ),
+            TextVerb::Timing { entry, p, k } => {
+                let entry = name_text(entry.name.as_slice());
+                write!(
+                    f,
+                    "timing of the routine {entry} of the source in {file}, with program counter {p} and counter {k}"
+                )
+            }
             TextVerb::Digest { limit } => {
                 let cycles = limit.cycles();
                 write!(
