@@ -15,6 +15,7 @@ mod fault;
 mod findings;
 mod labels;
 mod layout;
+mod line_text;
 mod operands;
 mod origins;
 mod passes;

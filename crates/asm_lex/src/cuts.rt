@@ -4,6 +4,7 @@ ghost use Rattle.std.specs.Prelude.{◌≡◌, ◌≤◌, ◌<◌, ◌+◌, ◌-
 ghost use Rattle.std.specs.List.{position_or_len, prefix_len, suffix_len, slice_split};
 ghost use Rattle.vip_byte.specs.Text.{is_blank};
 ghost use Rattle.asm_lex.specs.Cuts.{stops, parts_of, behind_first};
+ghost use Rattle.asm_lex.specs.Parts.{trimmed};
 
 use crate::text::{is_allowed, is_blank, is_in_name};
 
@@ -78,6 +79,16 @@ pub(crate) fn end_without_blanks(text: &[u8]) -> usize
         end -= 1;
     }
     end
+}
+
+/// A text without the blanks at its start and at its end.
+#[tactic(auto, unfolding(crate::specs::Parts::without_leading_blanks, crate::specs::Parts::without_trailing_blanks))]
+pub fn trimmed(text: &[u8]) -> &[u8]
+    ensures text { result.now ≡ trimmed text.now }
+    ensures shorter { length result.now ≤ length text.now }
+{
+    let behind = &text[leading_blanks(text)..];
+    &behind[..end_without_blanks(behind)]
 }
 
 /// The first part of a text that is cut, and what stands behind the byte at which it is cut, if there is one.

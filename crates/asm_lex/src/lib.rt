@@ -28,6 +28,7 @@ mod text;
 mod words;
 
 pub use crate::culprit::{Sought, first_term, is_label, lex_culprit, missing_colon, place_of};
+pub use crate::cuts::trimmed;
 pub use crate::expression::{has_large_number, value};
 pub use crate::names::{SymbolIter, Symbols};
 pub use crate::note::note_in;
