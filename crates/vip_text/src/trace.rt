@@ -5,9 +5,10 @@ ghost use Rattle.arrayvec.specs.ArrayVec.{array_vec_len};
 ghost use Rattle.vip_byte.specs.Room.{HasRoom};
 ghost use Rattle.vip_byte.specs.HexText.{hex4};
 ghost use Rattle.chip8_lang.specs.View.{seen};
-ghost use Rattle.vip_text.specs.Traces.{columns_text, comment_text, opcode_text, time_text, timers_text, trace_line};
+ghost use Rattle.vip_text.specs.Traces.{columns_text, comment_text, opcode_end, opcode_text, record_text, time_text, timers_text, told_line, trace_line};
 
 use crate::write::{put_bytes, put_words};
+use asm_core::Origins;
 use chip8_lang::StateView;
 use chip8_words::opcode_words;
 use vip_byte::{Buffer, hex2, hex4, put, put_number};
@@ -41,6 +42,26 @@ pub fn trace_text(view: &StateView, columns: TraceColumns, into: &mut Buffer)
     requires { into.old.items ≡ [] }
     ensures { into.new.items ≡ trace_line columns (seen view.now) }
 {
+    put_record(into, view, columns);
+    put(into, b"\n");
+}
+
+/// The same, and behind the columns the source's line that gave the opcode, where it is told.
+pub fn told_text(view: &StateView, columns: TraceColumns, origins: &Origins, into: &mut Buffer)
+    requires { into.old.items ≡ [] }
+    ensures { into.new.items ≡ told_line origins.now columns (seen view.now) }
+{
+    put_record(into, view, columns);
+    put_source(into, view, origins);
+    put(into, b"\n");
+}
+
+/// Writes a state into an empty buffer, with these columns behind it.
+fn put_record(into: &mut Buffer, view: &StateView, columns: TraceColumns)
+    requires { into.old.items ≡ [] }
+    ensures items { into.new.items ≡ record_text columns (seen view.now) }
+    ensures len { array_vec_len into.new ≤ 300 }
+{
     put_place(into, view);
     put_bytes(into, &view.v);
     put_index(into, view.i);
@@ -48,7 +69,17 @@ pub fn trace_text(view: &StateView, columns: TraceColumns, into: &mut Buffer)
     put(into, b" S");
     put_words(into, view.stack.as_slice());
     put_columns(into, view, columns);
-    put(into, b"\n");
+}
+
+/// Appends the source's line that gave the opcode, if there is one.
+fn put_source(into: &mut Buffer, view: &StateView, origins: &Origins)
+    requires { HasRoom into.old.items 320 }
+    ensures items { into.new.items ≡ into.old.items ++ opcode_end origins.now (seen view.now) }
+    ensures len { array_vec_len into.new ≤ array_vec_len into.old + 320 }
+{
+    if let Some(opcode) = view.opcode {
+        origins.put_end(false, view.pc, &opcode.to_be_bytes(), into);
+    }
 }
 
 /// Appends pc and the opcode, and the name of the registers V0 to VF.

@@ -1,11 +1,10 @@
-use Rattle.vip_text.specs.Traces.{trace_line}
-use Rattle.vip_text.proofs.trace.trace_text.Goals as goal
+use Rattle.vip_text.specs.Traces.{record_text}
+use Rattle.vip_text.proofs.trace.put_record.Goals as goal
 
-pub returns : goal.returns
-unfolding trace_line
-returns c =
+pub returns-clause-items : goal.returns-clause-items
+unfolding record_text
+returns-clause-items c =
     rw (
-      c.put-2.ensures.items,
       c.put_columns.ensures.items,
       c.put_words.ensures.items,
       c.put.ensures.items,
