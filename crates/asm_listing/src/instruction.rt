@@ -3,9 +3,8 @@
 ghost use Rattle.std.specs.Prelude.{◌≡◌, ◌≤◌, ◌<◌, ◌+◌, ◌++◌, [], codes, length, slice_index, take, IfOk, OnOk};
 ghost use Rattle.arrayvec.specs.ArrayVec.{array_vec_len};
 ghost use Rattle.vip_isa.specs.Texts.{instruction_text};
-ghost use Rattle.asm_listing.specs.Disassembly.{data_text, disassembly, ended_line, is_undefined, is_data, size_in, taken, text_in, word_in, HasPlace};
+ghost use Rattle.asm_listing.specs.Disassembly.{data_text, disassembly, ended_line, first_line, is_undefined, is_data, size_in, taken, text_in, word_in, HasPlace};
 ghost use Rattle.asm_core.specs.Sources.{source_lines};
-ghost use Rattle.vip_byte.specs.Text.{newline};
 ghost use Rattle.asm_listing.specs.WayBack.{AssemblesTo};
 
 use crate::write::append;
@@ -80,21 +79,21 @@ fn word_in(bytes: &[u8]) -> u16
 
 fn put_instruction(into: &mut ArrayVec<u8, 48>, isa: Isa, bytes: &[u8], address: u16)
     requires empty { into.old.items ≡ [] }
-    ensures items { into.new.items ≡ (codes " " ++ text_in isa address bytes.now) ++ newline }
+    ensures items { into.new.items ≡ codes " " ++ text_in isa address bytes.now }
+    ensures len { array_vec_len into.new ≤ 16 }
 {
     put(into, b" ");
     put_text(into, isa, bytes, address);
-    put(into, b"\n");
 }
 
 #[tactic(auto, unfolding(crate::specs::Disassembly::data_text))]
 fn put_data(into: &mut ArrayVec<u8, 48>, byte: u8)
     requires empty { into.old.items ≡ [] }
-    ensures items { into.new.items ≡ data_text byte ++ newline }
+    ensures items { into.new.items ≡ data_text byte }
+    ensures len { array_vec_len into.new ≤ 16 }
 {
     put(into, b" DB 0x");
     put(into, &hex2(byte));
-    put(into, b"\n");
 }
 
 fn is_undefined(isa: Isa, bytes: &[u8]) -> bool
@@ -116,13 +115,14 @@ fn is_data(isa: Isa, bytes: &[u8]) -> bool
     is_undefined(isa, bytes) || bytes.len() < usize::from(size_in(isa, bytes))
 }
 
-// Writes the first line of the disassembly of bytes that stand from an address on, and answers how many of them it shows.
+// Writes the first line of the disassembly of bytes that stand from an address on, without its newline, and answers how many of them it shows.
 #[tactic(auto, unfolding(crate::specs::Disassembly::taken, crate::specs::Disassembly::first_line, crate::specs::Disassembly::is_data))]
 fn put_line(into: &mut ArrayVec<u8, 48>, isa: Isa, bytes: &[u8], address: u16) -> u8
     requires some { 0 < length bytes.now }
     requires fits { address + length bytes.now ≤ 65536 }
     requires empty { into.old.items ≡ [] }
-    ensures line { into.new.items ≡ ended_line isa address bytes.now }
+    ensures line { into.new.items ≡ first_line isa address bytes.now }
+    ensures len { array_vec_len into.new ≤ 16 }
     ensures taken { result ≡ taken isa bytes.now }
     ensures least { 1 ≤ result }
     ensures most { result ≤ length bytes.now }
@@ -137,13 +137,14 @@ fn put_line(into: &mut ArrayVec<u8, 48>, isa: Isa, bytes: &[u8], address: u16) -
 }
 
 /// Writes one line of the CDP1802's disassembly of the first `have` bytes, 1 to 3, which stand from an address on, into an empty buffer, and
-/// answers how many of the bytes it shows. The line ends with a newline.
+/// answers how many of the bytes it shows. The line has no newline.
 pub fn one_line(three: [u8; 3], have: u8, address: u16, into: &mut ArrayVec<u8, 48>) -> u8
     requires some { 1 ≤ have }
     requires most { have ≤ 3 }
     requires fits { address + have ≤ 65536 }
     requires empty { into.old.items ≡ [] }
-    ensures line { into.new.items ≡ ended_line Isa.Cdp1802 address (take have three) }
+    ensures line { into.new.items ≡ first_line Isa.Cdp1802 address (take have three) }
+    ensures len { array_vec_len into.new ≤ 16 }
     ensures taken { result ≡ taken Isa.Cdp1802 (take have three) }
 {
     put_line(into, Isa::Cdp1802, &three[..usize::from(have)], address)
@@ -159,6 +160,7 @@ fn append_line(text: &mut Vec<u8>, isa: Isa, bytes: &[u8], address: u16) -> Resu
 {
     let mut line = ArrayVec::new();
     let taken = put_line(&mut line, isa, bytes, address);
+    put(&mut line, b"\n");
     append(text, line.as_slice())?;
     Ok(taken)
 }
