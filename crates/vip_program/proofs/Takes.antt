@@ -6,7 +6,7 @@ use Rattle.machine.specs.Board.{Machine}
 use Rattle.machine.specs.Keys.{Keys, held_at}
 use Rattle.machine.specs.Run.{states, after_moves}
 use Rattle.vip_board.specs.Seen.{Seen, held_by}
-use Rattle.vip_program.specs.Lines.{line_of, labels_before}
+use Rattle.vip_program.specs.Lines.{end_behind, line_of, labels_before}
 use Rattle.vip_program.specs.Moves.{goes_on, machine_after, MakesStretch, TakesLine}
 use Rattle.vip_program.specs.Trace.{share, stretches, moves_to, labelled, lines, lines_of, moves_ahead}
 use Rattle.vip_program.proofs.Runs.{rom-by, script-by, machine-by, moves-many, moves-rest}
@@ -25,14 +25,14 @@ module _ (rom : List ℕ) (held : ℕ → Keys) (limit : ℕ) where
       → (0 < left → share (after_moves rom held b n) (after_moves rom held b (suc n)) ≡ false)
       → (origins : Origins)
       → lines rom held origins b (suc n + left)
-      ≡ labels_before origins b ++ line_of rom held (states rom held b (suc n)) ∷ lines rom held origins (after_moves rom held b (suc n)) left
+      ≡ labels_before origins b ++ (line_of rom held (states rom held b (suc n)) ++ end_behind origins rom b) ∷ lines rom held origins (after_moves rom held b (suc n)) left
   unfolding lines
   first_line n left b shared ends origins =
       ap (λ moves. flat_map (labelled rom held origins) (stretches moves)) (states-append rom held (suc n) left b)
       ∙ ap (flat_map (labelled rom held origins))
       (stretch rom held n b (states rom held (after_moves rom held b (suc n)) left) shared
       (apart-left (after_moves rom held b n) (after_moves rom held b (suc n)) left ends))
-      ∙ append_assoc (labels_before origins b) (line_of rom held (states rom held b (suc n)) ∷ [])
+      ∙ append_assoc (labels_before origins b) ((line_of rom held (states rom held b (suc n)) ++ end_behind origins rom b) ∷ [])
       (lines rom held origins (after_moves rom held b (suc n)) left)
 
   -- where some moves are left, the next is made
@@ -90,19 +90,19 @@ module _ (count limit : ℕ) (old new : Seen) (made : ℕ) (m : MakesStretch cou
 
       by_number : (origins : Origins) (n : ℕ) → made ≡ suc n
           → lines_of origins old (made + rest)
-          ≡ labels_before origins old.machine ++ line ∷ lines old.rom (held_by old) origins (machine_after old made) rest
+          ≡ labels_before origins old.machine ++ (line ++ end_behind origins old.rom old.machine) ∷ lines old.rom (held_by old) origins (machine_after old made) rest
       by_number origins n e =
           let before : made - 1 ≡ n = omega (arith, e) in
           subst (λ k. lines_of origins old (k + rest)
-          ≡ labels_before origins old.machine ++ line ∷ lines old.rom (held_by old) origins (machine_after old k) rest) (sym e)
+          ≡ labels_before origins old.machine ++ (line ++ end_behind origins old.rom old.machine) ∷ lines old.rom (held_by old) origins (machine_after old k) rest) (sym e)
           (first_line old.rom (held_by old) limit n rest old.machine (λ k l. m.shared k (omega (arith, e, l)))
           (λ some. subst (λ k. share (machine_after old k) (machine_after old (suc n)) ≡ false) before
           (subst (λ k. share (machine_after old (made - 1)) (machine_after old k) ≡ false) e (ends_here some))) origins
-          ∙ ap (λ l. labels_before origins old.machine ++ l ∷ lines old.rom (held_by old) origins (machine_after old (suc n)) rest)
+          ∙ ap (λ l. labels_before origins old.machine ++ (l ++ end_behind origins old.rom old.machine) ∷ lines old.rom (held_by old) origins (machine_after old (suc n)) rest)
           (sym (is ∙ ap (λ k. line_of old.rom (held_by old) (states old.rom (held_by old) old.machine k)) e)))
 
       first : (origins : Origins)
-          → lines_of origins old (made + rest) ≡ labels_before origins old.machine ++ line ∷ lines_of origins new rest
+          → lines_of origins old (made + rest) ≡ labels_before origins old.machine ++ (line ++ end_behind origins old.rom old.machine) ∷ lines_of origins new rest
       first origins =
           by_number origins (made - 1) (let some = m.some in omega (arith, some))
-          ∙ ap (λ tail. labels_before origins old.machine ++ line ∷ tail) (sym (behind origins))
+          ∙ ap (λ tail. labels_before origins old.machine ++ (line ++ end_behind origins old.rom old.machine) ∷ tail) (sym (behind origins))

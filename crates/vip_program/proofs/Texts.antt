@@ -7,7 +7,6 @@ use Rattle.machine.specs.Board.Case.{Idle}
 use Rattle.machine.specs.Keys.{Keys}
 use Rattle.machine.specs.Run.{states}
 use Rattle.vip_board.proofs.Along.{length-states}
-use Rattle.vip_byte.specs.Text.{newline}
 use Rattle.vip_program.specs.Lines.{cycle_column, line_of, line_from, moves_text}
 
 pub appended : (old middle new first second : List ℕ) → middle ≡ old ++ first → new ≡ middle ++ second → new ≡ old ++ (first ++ second)
@@ -27,14 +26,13 @@ module _ (rom : List ℕ) (held : ℕ → Keys) (b : Machine) (old new : List �
       (appended old middle new (codes " IDLE ") (decimal made) before more
       ∙ ap (λ n. old ++ (codes " IDLE " ++ decimal n)) (sym (length-states rom held made b)))
 
-  -- a whole line
-  pub line-is : (made : ℕ) → 0 < made → (first second : List ℕ) → first ≡ [] ++ cycle_column b
-      → second ≡ first ++ moves_text rom held (case_of b) b (states rom held b made) → new ≡ second ++ newline
+  -- a whole line, without its end
+  pub line-is : (made : ℕ) → 0 < made → (first : List ℕ) → first ≡ [] ++ cycle_column b
+      → new ≡ first ++ moves_text rom held (case_of b) b (states rom held b made)
       → new ≡ line_of rom held (states rom held b made)
   unfolding line_from
-  line-is zero some first second x y z = absurd (omega (arith, some))
-  line-is (suc n) some first second x y z =
-      z ∙ ap (λ text. text ++ newline) (y ∙ ap (λ text. text ++ moves_text rom held (case_of b) b (states rom held b (suc n))) x)
+  line-is zero some first x y = absurd (omega (arith, some))
+  line-is (suc n) some first x y = y ∙ ap (λ text. text ++ moves_text rom held (case_of b) b (states rom held b (suc n))) x
 
 -- a number of at most ten digits
 pub short : (n : ℕ) (text : List ℕ) → n < 10_000_000_000 → text ≡ decimal n → length text ≤ 10

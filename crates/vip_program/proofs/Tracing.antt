@@ -11,7 +11,7 @@ use Rattle.vip_outside.specs.Sink.{SinkMeaning, PutsWhole, PutFails}
 use Rattle.vip_outside.specs.Pieces.{PutsAll, FailsWithin}
 use Rattle.vip_outside.specs.declared.sink.Failed.{Failed}
 use Rattle.vip_outside.proofs.PiecesLemmas.{PutsAll-append, PutsAll-snoc, FailsWithin-append, FailsWithin-more, FailsWithin-snoc}
-use Rattle.vip_program.specs.Lines.{labels_before}
+use Rattle.vip_program.specs.Lines.{end_behind, labels_before}
 use Rattle.vip_program.specs.Moves.{goes_on, TakesLine}
 use Rattle.vip_program.specs.Trace.{Traces, TraceFails, TraceAnswers, lines, lines_of, moves_ahead, stretches}
 use Rattle.vip_program.proofs.Runs.{moved-more, moves-rest}
@@ -31,8 +31,8 @@ pub record Tracing (origins : Origins) (count limit : ℕ) (start v : Seen) (out
   pub all : lines_of origins start (moves_ahead start limit count) ≡ written ++ lines_of origins v (moves_ahead v limit (count - made))
 
 module _ (origins : Origins) (count limit : ℕ) (start : Seen) (out : SinkMeaning) where
-  module _ (v v' : Seen) (out' : SinkMeaning) (made more : ℕ) (t : Tracing origins count limit start v out out' made) (line : List ℕ)
-      (l : TakesLine (count - made) limit v v' line more) where
+  module _ (v v' : Seen) (out' : SinkMeaning) (made more : ℕ) (t : Tracing origins count limit start v out out' made) (text line : List ℕ)
+      (l : TakesLine (count - made) limit v v' text more) (is : line ≡ text ++ end_behind origins v.rom v.machine) where
     left_is : count - made - more ≡ count - (made + more)
     left_is = omega arith
 
@@ -43,7 +43,12 @@ module _ (origins : Origins) (count limit : ℕ) (start : Seen) (out : SinkMeani
     behind = lines_of origins v' (moves_ahead v' limit (count - (made + more)))
 
     split : lines_of origins start (moves_ahead start limit count) ≡ t.written ++ (before ++ line ∷ behind)
-    split = t.all ∙ ap (λ tail. t.written ++ tail) (l.first origins ∙ ap (λ n. before ++ line ∷ lines_of origins v' (moves_ahead v' limit n)) left_is)
+    split =
+        t.all
+        ∙ ap (λ tail. t.written ++ tail)
+        (l.first origins
+        ∙ ap (λ x. before ++ x ∷ lines_of origins v' (moves_ahead v' limit (count - made - more))) (sym is)
+        ∙ ap (λ n. before ++ line ∷ lines_of origins v' (moves_ahead v' limit n)) left_is)
 
     split-behind : lines_of origins start (moves_ahead start limit count) ≡ (t.written ++ before) ++ line ∷ behind
     split-behind = split ∙ sym (append_assoc t.written before (line ∷ behind))

@@ -2,7 +2,7 @@
 use Rattle.std.specs.Prelude.{ℕ, Bool, ◌+◌, ◌*◌, ◌%◌, List, [], ◌∷◌, ◌++◌, length, map, flat_map, take, slice_index, codes, decimal, Option, Some, None}
 use Rattle.std.specs.Option.{option_map_or}
 use Rattle.asm_lex.specs.Words.{size_at}
-use Rattle.asm_core.specs.Origins.{Origins, labels_over}
+use Rattle.asm_core.specs.Origins.{Origins, labels_over, source_end}
 use Rattle.machine.specs.Board.{Machine, Case, case_of, byte_of, dma_byte, flags_of}
 use Rattle.machine.specs.Board.Case.{Dma, Interrupt, Idle, Instruction}
 use Rattle.machine.specs.Instruction.{Regs, Effect, Port, at, instruction}
@@ -35,9 +35,13 @@ opcode_in three = slice_index three 0
 unfoldable pub names_at : ℕ → Names
 names_at opcode = names_in (kind_of opcode) (opcode_number opcode)
 
+-- the bytes of the instruction
+abbrev pub code_in : List ℕ → List ℕ
+code_in three = take (size_at (opcode_in three)) three
+
 -- the address, the bytes of the instruction in a column of six, and the instruction in one of eleven
 abbrev pub code_text : List ℕ → List ℕ
-code_text three = left 6 (flat_map hex2 (take (size_at (opcode_in three)) three))
+code_text three = left 6 (flat_map hex2 (code_in three))
 
 unfoldable pub place_text : ℕ → List ℕ → List ℕ
 place_text address three =
@@ -107,15 +111,15 @@ module _ (rom : List ℕ) (held : ℕ → Keys) where
   moves_text Idle b moves = codes " IDLE " ++ decimal (length moves)
   moves_text Dma b moves = dma_text (at b.regs 0) ++ bytes_text (map (dma_byte rom) moves)
 
-  -- the line of moves of which this is the first, and then these
+  -- the line of moves of which this is the first, and then these, without its end
   unfoldable pub line_from : Machine → List Machine → List ℕ
-  line_from b moves = cycle_column b ++ moves_text (case_of b) b moves ++ newline
+  line_from b moves = cycle_column b ++ moves_text (case_of b) b moves
 
   abbrev pub line_of : List Machine → List ℕ
   line_of [] = []
   line_of (b ∷ bs) = line_from b (b ∷ bs)
 
--- ---- labels
+-- ---- what a source says of an instruction
 
 -- the address from which the opcode of a move is read that is an instruction
 abbrev pub place_in : Case → Machine → Option ℕ
@@ -125,3 +129,11 @@ place_in _ b = None
 -- the lines that show the labels before the line of a move
 abbrev pub labels_before : Origins → Machine → List (List ℕ)
 labels_before origins b = option_map_or (labels_over origins) (place_in (case_of b) b) []
+
+-- behind the line the source's line that gave the instruction, where it is told, and the newline
+abbrev pub source_in : Origins → List ℕ → Case → Machine → List ℕ
+source_in origins rom Instruction b = source_end origins b.latch (at b.regs b.regs.p) (code_in (three_at (byte_of rom b) (at b.regs b.regs.p)))
+source_in origins rom _ b = []
+
+abbrev pub end_behind : Origins → List ℕ → Machine → List ℕ
+end_behind origins rom b = source_in origins rom (case_of b) b ++ newline

@@ -7,7 +7,7 @@ use Rattle.machine.specs.Run.{after_moves}
 use Rattle.machine.specs.Signals.{line_cycles}
 use Rattle.vip_board.specs.Moves.{moved_by}
 use Rattle.vip_board.specs.Seen.{Seen, held_by}
-use Rattle.vip_program.specs.Lines.{labels_before}
+use Rattle.vip_program.specs.Lines.{end_behind, labels_before}
 use Rattle.vip_program.specs.Trace.{lines_of, moves_ahead, share, sleeps}
 
 -- the next move is made: it ends at or before the limit, and the machine doesn't sleep
@@ -48,7 +48,7 @@ pub record MakesStretch (count limit : ℕ) (old new : Seen) (made : ℕ) : Type
   pub shared : (k : ℕ) → suc k < made → share (machine_after old k) (machine_after old (suc k)) ≡ true
   pub ends : made < count → goes_on limit new.rom new.machine ≡ true → share (machine_after old (made - 1)) new.machine ≡ false
 
--- the line of the next moves, of which there are some, was written; before it stand the lines of its labels
+-- the line of the next moves, of which there are some, was written, without its end; before it stand the lines of its labels
 pub record TakesLine (count limit : ℕ) (old new : Seen) (line : List ℕ) (made : ℕ) : Type 0 where
   pub some : 0 < made
   pub moved : new ≡ moved_by made old
@@ -56,4 +56,5 @@ pub record TakesLine (count limit : ℕ) (old new : Seen) (line : List ℕ) (mad
   pub ahead : moves_ahead old limit count ≡ made + moves_ahead new limit (count - made)
   pub first :
       (origins : Origins)
-      → lines_of origins old (moves_ahead old limit count) ≡ labels_before origins old.machine ++ line ∷ lines_of origins new (moves_ahead new limit (count - made))
+      → lines_of origins old (moves_ahead old limit count)
+      ≡ labels_before origins old.machine ++ (line ++ end_behind origins old.rom old.machine) ∷ lines_of origins new (moves_ahead new limit (count - made))

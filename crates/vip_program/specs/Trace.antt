@@ -1,5 +1,6 @@
 -- The run of a program up to a limit, and what is written of it: a line for each instruction and each interrupt, one for each stretch of idle
--- cycles, and one for the DMA cycles of each raster line. Before the line of an instruction stand the lines of the labels at its opcode.
+-- cycles, and one for the DMA cycles of each raster line. Before the line of an instruction stand the lines of the labels at its opcode, and at its end the
+-- source's line that gave it, where it is told.
 use Rattle.std.specs.Prelude.{◌≡◌, ◌≤◌, ℕ, ◌+◌, ◌-◌, ◌/◌, ◌%◌, ◌==◌, if◌then◌else◌, Bool, true, false, min, List, [], ◌∷◌, ◌++◌, length, flat_map, Result, Ok, Err}
 use Rattle.asm_core.specs.Origins.{Origins}
 use Rattle.machine.specs.Board.{Machine, Case, case_of}
@@ -14,7 +15,7 @@ use Rattle.vip_board.specs.Seen.{Seen, held_by}
 use Rattle.vip_outside.specs.Sink.{SinkMeaning}
 use Rattle.vip_outside.specs.Pieces.{PutsAll, FailsWithin}
 use Rattle.vip_outside.specs.declared.sink.Failed.{Failed}
-use Rattle.vip_program.specs.Lines.{line_of, labels_before}
+use Rattle.vip_program.specs.Lines.{end_behind, line_of, labels_before}
 use Rattle.vip_program.specs.declared.trace.ProgramEnd.{ProgramEnd}
 use Rattle.vip_program.specs.declared.trace.ProgramEnd.TheVariants as end
 
@@ -54,7 +55,7 @@ module _ (rom : List ℕ) (held : ℕ → Keys) where
   -- the line of a stretch, behind those of the labels at its instruction
   abbrev pub labelled : Origins → List Machine → List (List ℕ)
   labelled origins [] = []
-  labelled origins (b ∷ bs) = labels_before origins b ++ line_of rom held (b ∷ bs) ∷ []
+  labelled origins (b ∷ bs) = labels_before origins b ++ (line_of rom held (b ∷ bs) ++ end_behind origins rom b) ∷ []
 
   -- the lines of so many moves from a machine on
   unfoldable pub lines : Origins → Machine → ℕ → List (List ℕ)

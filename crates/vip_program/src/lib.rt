@@ -30,7 +30,7 @@ mod write;
 
 pub use counts::{ADDRESSES, Counts, Point};
 pub use instructions::ProgramProfile;
-pub use labels::{next_place, put_labels, put_labels_at};
+pub use labels::{next_place, put_labels, put_labels_at, put_line_end};
 pub use line::put_selected;
 pub use moves::move_text;
 pub use pictures::show_pictures;

@@ -155,17 +155,16 @@ fn put_move(into: &mut Buffer, board: &Board)
     }
 }
 
-/// Writes the line that a board's next move has alone into an empty buffer. The board is at a boundary.
+/// Writes the line that a board's next move has alone into an empty buffer, without its end. The board is at a boundary.
 #[tactic(auto, unfolding(crate::specs::Lines::line_from))]
 pub fn move_text(board: &Board, into: &mut Buffer)
     requires cycle { board.now.machine.cycle ≤ MOST_CYCLE }
     requires empty { into.old.items ≡ [] }
     ensures line { into.new.items ≡ line_of board.now.rom (held_by board.now) (board.now.machine ∷ []) }
-    ensures columns { length into.new.items ≤ 81 }
+    ensures columns { length into.new.items ≤ 80 }
 {
     put_cycle(into, board);
     put_move(into, board);
-    put(into, b"\n");
 }
 
 /// Makes the moves of the next line, at most `count` of them, and appends what it says of them. Answers how many.
@@ -206,7 +205,8 @@ fn make_line(board: &mut Board, count: u64, limit: Limit, into: &mut Buffer) -> 
     }
 }
 
-/// Makes the moves of the next line, at most `count` of them and at least one, and writes the line into an empty buffer. Answers how many.
+/// Makes the moves of the next line, at most `count` of them and at least one, and writes the line into an empty buffer, without its end. Answers how
+/// many.
 pub fn next_line(board: &mut Board, count: u64, limit: Limit, into: &mut Buffer) -> u64
     requires boundary { board.old.phase ≡ Boundary }
     requires some { 0 < count }
@@ -216,10 +216,8 @@ pub fn next_line(board: &mut Board, count: u64, limit: Limit, into: &mut Buffer)
     requires empty { into.old.items ≡ [] }
     ensures boundary { board.new.phase ≡ Boundary }
     ensures line { TakesLine count limit board.old board.new into.new.items result }
-    ensures columns { length into.new.items ≤ 81 }
+    ensures columns { length into.new.items ≤ 80 }
 {
     put_cycle(into, board);
-    let made = make_line(board, count, limit, into);
-    put(into, b"\n");
-    made
+    make_line(board, count, limit, into)
 }

@@ -4,11 +4,11 @@ ghost use Rattle.std.specs.Prelude.{◌≡◌, ◌≤◌};
 ghost use Rattle.vip_cpu.specs.declared.cpu.Phase.TheVariants.{Boundary};
 ghost use Rattle.vip_program.specs.Trace.{ShowAnswers, TraceAnswers, end_at, program_trace};
 
-use crate::labels::{next_place, put_labels};
+use crate::labels::{next_place, put_labels, put_line_end};
 use crate::moves::{goes_on, next_line};
 use asm_core::Origins;
 use vip_board::Board;
-use vip_byte::{Buffer, add16};
+use vip_byte::{Buffer, add16, put};
 use vip_outside::{Failed, Sink};
 use vip_text::Limit;
 
@@ -34,8 +34,8 @@ pub fn ending(board: &Board) -> ProgramEnd
 }
 
 /// Makes at most `count` moves, those that end at or before the limit, and none from where the processor idles with the display off. Puts
-/// their lines, each as one piece, that of an instruction behind those of the labels at its opcode, and answers how many moves were made. The
-/// board is at a boundary, before and after.
+/// their lines, each as one piece, that of an instruction behind those of the labels at its opcode and with the source's line that gave it, where it is
+/// told, and answers how many moves were made. The board is at a boundary, before and after.
 ///
 /// A put that fails ends it: the board has made the moves of that line, and no others.
 pub fn trace_moves<O: Sink>(
@@ -50,12 +50,17 @@ pub fn trace_moves<O: Sink>(
     ensures { TraceAnswers origins.now count limit board.old board.new (O.meaning out.old) (O.meaning out.new) result }
 {
     let mut made = 0;
-    // one for all lines, since a new one is filled with 00 each time
+    // one of each for all lines, since a new one is filled with 00 each time
     let mut line = Buffer::new();
+    let mut end = Buffer::new();
     while made < count && goes_on(board, limit) {
         let place = next_place(board);
+        // by the bytes before the moves, which may change them
+        end.clear();
+        put_line_end(board, origins, &mut end);
         line.clear();
         made += next_line(board, count - made, limit, &mut line);
+        put(&mut line, end.as_slice());
         put_labels(origins, place, out)?;
         out.put(line.as_slice())?;
     }
