@@ -93,7 +93,7 @@ module _ (routines : AcceptedIsWithin) (games : CertifiedGames) (law : EveryRun)
 
   shown_proof : (e : Edition) (code : Code (List ℕ)) (game text : List ℕ) → IsAccepted e game text → IsAccepted e game (certify_shown e code game text)
   shown_proof e (Bytes bytes) game text accepted = accepted
-  shown_proof e (Source source) game text accepted = proof-accepted e game (origins_of Chip8 (source_lines source)) text accepted
+  shown_proof e (Source source told) game text accepted = proof-accepted e game (origins_of Chip8 (source_lines source)) text accepted
 
   written : (output : Output) (text : List ℕ) → Given output ≡ Shown (text ∷ []) Done [] → output.pieces ≡ text ∷ []
   written output text is = ap (λ o. o.pieces) (same_value output _ is)

@@ -29,7 +29,7 @@ mosts ns = map (λ n. n.most) ns
 module _ {A B : Type 0} (f : A → B) where
   code_most : (kind : Kind) (most : ℕ) (code : Code A) → (code_file kind most (map_code f code)).most ≡ (code_file kind most code).most
   code_most kind most (code.Bytes file) = refl
-  code_most kind most (code.Source file) = refl
+  code_most kind most (code.Source file told) = refl
 
   start_mosts : (s : Start A) → mosts (start_files (map_start f s)) ≡ mosts (start_files s)
   start_mosts (start.Game code edition) = ap (λ most. most ∷ []) (code_most (game_kind edition) (memory_size edition) code)
@@ -174,7 +174,7 @@ bare x = tt
 
 code_filled : (kind : Kind) (most : ℕ) (code : Code (List ℕ)) → with_file (map_code bare code) (code_file kind most code).file ≡ code
 code_filled kind most (code.Bytes file) = refl
-code_filled kind most (code.Source file) = refl
+code_filled kind most (code.Source file told) = refl
 
 start_filled : (s : Start (List ℕ)) (ns : List (Needed (List ℕ))) → fill_start (map_start bare s) (files_of (start_files s ++ ns)) ≡ s
 start_filled (start.Game code edition) ns = ap (λ code. start.Game code edition) (code_filled (game_kind edition) (memory_size edition) code)

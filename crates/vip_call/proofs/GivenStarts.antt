@@ -26,7 +26,7 @@ pub record FitsGame (e : Edition) (game : List ℕ) : Type 0 where
 
 pub game_fits : (e : Edition) (code : Code (List ℕ)) → IsGiven (game_code e code) → (game : List ℕ) → GameComes e code (Given game) → FitsGame e game
 game_fits e (Bytes file) given game comes = subst (FitsGame e) (sym comes) (record { fits = given.fits; bytes = given.bytes })
-game_fits e (Source text) given game comes = record { fits = comes.here.fits; bytes = comes.here.raw.bytes }
+game_fits e (Source text told) given game comes = record { fits = comes.here.fits; bytes = comes.here.raw.bytes }
 
 pub start_fits : (start : asked.Start (List ℕ)) (others : List (Needed (List ℕ))) → AreGiven (start_files start ++ others) → (s : RunStart)
     → StartComes start (Given s) → Fits s.edition s.start

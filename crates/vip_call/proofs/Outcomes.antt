@@ -236,7 +236,7 @@ large_or_not e text made made' is is' a edition fits large =
 
 game_once : (e : Edition) (code : Code (List ℕ)) → AgreeOn (λ a b. a ≡ b) (GameComes e code) (GameComes e code)
 game_once e (Bytes game) = only_agree game
-game_once e (Source text) =
+game_once e (Source text told) =
     bind_agree Any (λ a b. a ≡ b) (SourceComes Chip8Words text) (SourceComes Chip8Words text) (FitComes e) (FitComes e) (source_once Chip8Words text)
     (λ made made' is is' same. judged_agree (λ a b. a ≡ b) _ _ _ _ _
     (λ a b x y. one_game text made made' is is' a b x.raw y.raw)
@@ -253,7 +253,7 @@ laid_once text =
 
 image_once : (memory : Memory) (code : Code (List ℕ)) → AgreeOn (λ a b. a ≡ b) (ImageComes memory code) (ImageComes memory code)
 image_once memory (Bytes bytes) = only_agree _
-image_once memory (Source text) =
+image_once memory (Source text told) =
     bind_agree Any (λ a b. a ≡ b) (SourceComes Cdp1802 text) (SourceComes Cdp1802 text) (λ made. LaidComes text) (λ made. LaidComes text) (source_once Cdp1802 text)
     (λ made made' is is' same. laid_once text)
 
@@ -420,11 +420,11 @@ module _ (given : RomsGiven) where
 
     game_free : (e : Edition) (code : Code (List ℕ)) → FreePart loaded (GameComes e code)
     game_free e (Bytes game) = any_part _
-    game_free e (Source text) = part_behind (SourceComes Chip8Words text) (FitComes e) (source_free Chip8Words text) (λ made. part _ _ _ (λ f x. (λ y. y, λ is. absurd (cc))))
+    game_free e (Source text told) = part_behind (SourceComes Chip8Words text) (FitComes e) (source_free Chip8Words text) (λ made. part _ _ _ (λ f x. (λ y. y, λ is. absurd (cc))))
 
     image_free : (memory : Memory) (code : Code (List ℕ)) → FreePart loaded (ImageComes memory code)
     image_free memory (Bytes bytes) = any_part _
-    image_free memory (Source text) =
+    image_free memory (Source text told) =
         part_behind (SourceComes Cdp1802 text) (λ made. LaidComes text) (source_free Cdp1802 text) (λ made. part _ _ _ (λ f x. (λ y. y, λ is. absurd (cc))))
 
     start_free : (start : asked.Start (List ℕ)) → FreePart loaded (StartComes start)

@@ -1,11 +1,10 @@
 -- What comes of code, by what comes of the bytes that it gives.
 use Rattle.std.proofs.Common.{◌≡◌, ◌≤◌, ◌<◌, ◌+◌, ◌-◌, ◌∙◌, ℕ, List, refl, sym, ap, arith, inl, inr, Option, Some, None, Result, Ok, Err, Vec}
-use Rattle.std.specs.Prelude.{◌&&◌, not, is_some, option_map, unwrap_or}
+use Rattle.std.specs.Prelude.{◌&&◌, Bool, not, is_some, option_map, unwrap_or}
 use Rattle.std.proofs.lemmas.Bool.{cases_lt}
 use Rattle.std.proofs.lemmas.List.FromFn.{fill_by_all, get_or-map-range_with_len, length-map-range_with_len}
 use Rattle.asm_lex.specs.declared.shape.Isa.TheVariants.{Cdp1802, Chip8}
 use Rattle.asm_core.specs.Made.{Made, IsAssembly, made_byte}
-use Rattle.asm_core.specs.Origins.{origins_of}
 use Rattle.asm_core.specs.Sources.{source_lines}
 use Rattle.asm_lex.specs.Names.{number_from, value_in}
 use Rattle.asm_lex.specs.declared.shape.Isa.{Isa}
@@ -17,7 +16,7 @@ use Rattle.vip_tools.specs.declared.refusal.Misfit.TheVariants.{Stray}
 use Rattle.vip_tools.specs.declared.refusal.Refusal.{Refusal}
 use Rattle.vip_tools.specs.declared.refusal.Refusal.TheVariants.{Misfit, NoMemory}
 use Rattle.vip_tools.specs.Certificates.{source_byte}
-use Rattle.vip_tools.specs.Code.{FitComes, GameAnswers, ImageAnswers, IsRawGame, Known, MadeGameAnswers, MadeImageAnswers, is_memory, is_stray, known_of, marked}
+use Rattle.vip_tools.specs.Code.{FitComes, GameAnswers, ImageAnswers, IsRawGame, Known, MadeGameAnswers, MadeImageAnswers, is_memory, is_stray, known_of, marked, origins_by}
 use Rattle.vip_tools.specs.Opening.{SourceComes}
 use Rattle.vip_tools.specs.declared.code.Marks.{Marks}
 use Rattle.vip_tools.specs.Files.{ram_size, rom_size}
@@ -27,29 +26,30 @@ use Rattle.vip_tools.proofs.JudgedLemmas.{refused-behind}
 
 -- the marks of an assembly are those of its source
 pub made-marks : (isa : Isa) (text : List ℕ) (made : Made) → IsAssembly isa (source_lines text) made → (marks : Marks) → marks.names ≡ made.names
-    → marks.origins ≡ origins_of isa (source_lines text) → marked marks ≡ known_of isa (Text text)
-made-marks isa text made is marks named given = λ i.
+    → (told : Bool) → marks.origins ≡ origins_by told isa (source_lines text) → marked marks ≡ known_of isa (Text text told)
+made-marks isa text made is marks named told given = λ i.
     record { names = λ name. number_from ((ap (λ names. value_in names name) named ∙ is.names name) i); origins = given i }
 
 -- what is known of a source goes by its text
-pub known-moved : (isa : Isa) (known : Known) (text text' : List ℕ) → text ≡ text' → known ≡ known_of isa (Text text) → known ≡ known_of isa (Text text')
-known-moved isa known text text' same is = is ∙ ap (λ t. known_of isa (Text t)) same
+pub known-moved : (isa : Isa) (known : Known) (told : Bool) (text text' : List ℕ) → text ≡ text' → known ≡ known_of isa (Text text told)
+    → known ≡ known_of isa (Text text' told)
+known-moved isa known told text text' same is = is ∙ ap (λ t. known_of isa (Text t told)) same
 
 -- ---- a game
 
-pub made-game : {Z : Type 0} (e : Edition) (text : List ℕ) (made : Made) → IsAssembly Chip8 (source_lines text) made → (r : Result (Vec ℕ Z) Refusal)
-    → MadeGameAnswers e made r → GameAnswers e (Text text) r
-made-game e text made is (Ok game) answer = (record { value = made; gives = is; here = answer }, answer.fits)
-made-game e text made is (Err refusal) answer = refused-behind (SourceComes Chip8 text) (FitComes e) made is refusal answer
+pub made-game : {Z : Type 0} (e : Edition) (text : List ℕ) (told : Bool) (made : Made) → IsAssembly Chip8 (source_lines text) made
+    → (r : Result (Vec ℕ Z) Refusal) → MadeGameAnswers e made r → GameAnswers e (Text text told) r
+made-game e text told made is (Ok game) answer = (record { value = made; gives = is; here = answer }, answer.fits)
+made-game e text told made is (Err refusal) answer = refused-behind (SourceComes Chip8 text) (FitComes e) made is refusal answer
 
 -- ---- a program
 
 -- what an assembly gives, its source does
-module _ (memory : Memory) (text : List ℕ) (made : Made) (is : IsAssembly Cdp1802 (source_lines text) made) where
+module _ (memory : Memory) (text : List ℕ) (told : Bool) (made : Made) (is : IsAssembly Cdp1802 (source_lines text) made) where
   same_stray : (a : ℕ) → a < 65536 → is_stray (made_byte made) a ≡ is_stray (source_byte text) a
   same_stray a low = ap (λ cell. not (is_memory a) && is_some (option_map (λ cell. cell.byte) cell)) (is.cells a low)
 
-  pub made-image : (r : Result Image Refusal) → MadeImageAnswers (made_byte made) r → ImageAnswers memory (Text text) r
+  pub made-image : (r : Result Image Refusal) → MadeImageAnswers (made_byte made) r → ImageAnswers memory (Text text told) r
   made-image (Ok image) answer = (
     record {
       value = made;

@@ -30,7 +30,7 @@ module _ (old new : FilesMeaning) (m m' n n' : Needed Word) (is : m ≡ n) (is' 
 module _ (kind : Kind) (most : ℕ) where
   code-file : (code : Code Word) (content : List ℕ) → code_file kind most (with_file code content) ≡ record (code_file kind most code) { file = content }
   code-file (Bytes name) content = refl
-  code-file (Source name) content = refl
+  code-file (Source name told) content = refl
 
   -- it was read
   pub loads-code : (old new : FilesMeaning) (n : Needed Word) (code : Code Word) → n ≡ code_file kind most code → (bytes : Vec ℕ Global) → FileAnswers old new n (Ok bytes)
@@ -47,7 +47,7 @@ module _ (kind : Kind) (most : ℕ) where
 
 pub code-shape : (code : Code Word) (content : List ℕ) (held : Code (List ℕ)) → held ≡ with_file code content → code_shape code ≡ code_shape held
 code-shape (Bytes name) content held holds = rw holds refl
-code-shape (Source name) content held holds = rw holds refl
+code-shape (Source name told) content held holds = rw holds refl
 
 -- a run of the language
 module _ (old there here : FilesMeaning) (asked : RunRequest Word) where

@@ -143,7 +143,7 @@ ProofFound e game = judged (IsGameFound e game) (IsWhy e game) find_refusal
 -- a certificate is written as it is, and that of a source with the names of its labels
 abbrev pub certify_shown : Edition → Code (List ℕ) → List ℕ → List ℕ → List ℕ
 certify_shown e (given.Bytes bytes) game text = text
-certify_shown e (given.Source source) game text = proof_shown e game (origins_of Chip8 (source_lines source)) text
+certify_shown e (given.Source source told) game text = proof_shown e game (origins_of Chip8 (source_lines source)) text
 
 -- The least certificate that `safe` accepts, exactly where there is one that is small enough for it; or why there is none.
 abbrev pub CertifyComes : Edition → Code (List ℕ) → List ℕ → Judged Output

@@ -1,9 +1,9 @@
 -- What code gives: the bytes of a game, or those of both memories of a program.
-use Rattle.std.specs.Prelude.{◌≡◌, ◌<◌, ◌≤◌, ◌&&◌, ◌||◌, not, nat_le, nat_lt, ℕ, Bool, true, false, List, [], length, is_some, slice_index, Option, None, Some, Result, Ok, Err, Vec}
+use Rattle.std.specs.Prelude.{◌≡◌, ◌<◌, ◌≤◌, ◌&&◌, ◌||◌, not, nat_le, nat_lt, ℕ, Bool, true, false, List, [], length, is_some, slice_index, if◌then◌else◌, Option, None, Some, Result, Ok, Err, Vec}
 use Rattle.chip8_lang.specs.State.{memory_size}
 use Rattle.chip8_lang.specs.declared.view.Edition.{Edition}
 use Rattle.asm_core.specs.Made.{Made, IsAssembly}
-use Rattle.asm_core.specs.Origins.{Origins, no_origins, origins_of}
+use Rattle.asm_core.specs.Origins.{Origins, no_origins, origins_of, told_origins_of}
 use Rattle.asm_core.specs.Sources.{source_lines, all_names}
 use Rattle.asm_lex.specs.Names.{number_named, value_in}
 use Rattle.asm_lex.specs.declared.shape.Isa.{Isa}
@@ -52,7 +52,7 @@ FitComes e made = judged (IsFitGame e made) (IsLarge e made) (λ edition. Misfit
 -- The game of code: the bytes of a file; or of a source its first fault, a game that is too large, or the game that it gives.
 abbrev pub GameComes : Edition → Code (List ℕ) → Judged (List ℕ)
 GameComes e (Bytes game) = only game
-GameComes e (Source text) = bind (SourceComes Chip8 text) (FitComes e)
+GameComes e (Source text told) = bind (SourceComes Chip8 text) (FitComes e)
 
 -- ---- a program
 
@@ -100,7 +100,7 @@ LaidComes text =
 
 abbrev pub ImageComes : Memory → Code (List ℕ) → Judged (List ℕ × List ℕ)
 ImageComes memory (Bytes program) = only (in_rom memory program, in_ram memory program)
-ImageComes memory (Source text) = bind (SourceComes Cdp1802 text) (λ made. LaidComes text)
+ImageComes memory (Source text told) = bind (SourceComes Cdp1802 text) (λ made. LaidComes text)
 
 -- ---- what is known of code besides its bytes
 
@@ -112,10 +112,13 @@ pub record Known : Type 0 where
 abbrev pub nothing_known : Known
 nothing_known = record { names = λ name. None; origins = no_origins }
 
+abbrev pub origins_by : Bool → Isa → List (List ℕ) → Origins
+origins_by told isa source = if told then told_origins_of isa source else origins_of isa source
+
 abbrev pub known_of : Isa → Code (List ℕ) → Known
 known_of isa (Bytes bytes) = nothing_known
-known_of isa (Source text) =
-    record { names = number_named (all_names isa (source_lines text)); origins = origins_of isa (source_lines text) }
+known_of isa (Source text told) =
+    record { names = number_named (all_names isa (source_lines text)); origins = origins_by told isa (source_lines text) }
 
 -- what the marks of a source say
 abbrev pub marked : Marks → Known

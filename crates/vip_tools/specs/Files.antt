@@ -107,7 +107,7 @@ module _ {N : Type 0} where
   -- the file of code: bytes of this kind, at most so many, or a source that gives them
   abbrev pub code_file : Kind → ℕ → Code N → Needed N
   code_file kind most (code.Bytes n) = file kind most n
-  code_file kind most (code.Source n) = source_file n
+  code_file kind most (code.Source n told) = source_file n
 
   -- a game, which has to fit into its edition's game memory, and a program, which has to fit into its memory, or their sources
   abbrev pub game_code : Edition → Code N → Needed N
@@ -152,7 +152,7 @@ module _ {N : Type 0} where
 -- code with this file
 abbrev pub with_file : {A B : Type 0} → Code A → B → Code B
 with_file (code.Bytes a) b = code.Bytes b
-with_file (code.Source a) b = code.Source b
+with_file (code.Source a told) b = code.Source b told
 
 abbrev pub seen_wanted : Wanted → Needed Word
 seen_wanted w = record { file = w.name.now; most = w.most; kind = w.kind }

@@ -1,6 +1,6 @@
 //! The verbs of certificates: how long a routine takes, and that a game never stops.
 
-ghost use Rattle.std.specs.Prelude.{◌≡◌, ◌≤◌, ◌⊎◌, [], length, Ok, Err, IfOk, IfErr};
+ghost use Rattle.std.specs.Prelude.{◌≡◌, ◌≤◌, ◌⊎◌, [], length, false, Ok, Err, IfOk, IfErr};
 ghost use Rattle.chip8_lang.specs.State.{memory_size};
 ghost use Rattle.cycle_check.specs.Closed.{checked};
 ghost use Rattle.cycle_check.specs.declared.fault.CertFault.TheVariants.{NoMemory};
@@ -372,10 +372,14 @@ fn certify_source<'a>(
     edition: Edition,
     source: Vec<u8>,
 ) -> Result<Vec<u8>, Refusal<'a>>
-    requires { IsFit (game_code edition (Source source.items)) }
-    ensures { TextAnswers (bind (GameComes edition (Source source.items)) (CertifyComes edition (Source source.items))) result }
+    requires { IsFit (game_code edition (Source source.items false)) }
+    ensures { TextAnswers (bind (GameComes edition (Source source.items false)) (CertifyComes edition (Source source.items false))) result }
 {
-    let made = marked_game(alloc, edition, Code::Source(source))?;
+    let code = Code::Source {
+        file: source,
+        told: false,
+    };
+    let made = marked_game(alloc, edition, code)?;
     let text = found_proof(alloc, edition, made.game.as_slice())?;
     named_proof(
         alloc,
@@ -397,6 +401,6 @@ pub fn certify<'a>(
 {
     match code {
         Code::Bytes(game) => found_proof(alloc, edition, game.as_slice()),
-        Code::Source(source) => certify_source(alloc, edition, source),
+        Code::Source { file, .. } => certify_source(alloc, edition, file),
     }
 }

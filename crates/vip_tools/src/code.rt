@@ -56,11 +56,21 @@ impl Marks {
         }
     }
 
-    /// What is known of a source in the words of an instruction set, by its assembly.
-    fn of(alloc: Global, isa: Isa, text: &[u8], made: Assembly) -> Result<Marks, AllocError>
+    /// What is known of a source in the words of an instruction set, by its assembly, with the texts of its lines where they are told.
+    fn of(
+        alloc: Global,
+        isa: Isa,
+        text: &[u8],
+        told: bool,
+        made: Assembly,
+    ) -> Result<Marks, AllocError>
         requires { IsAssembly isa (source_lines text.now) made }
-        ensures { IfOk result (λ marks. marked marks ≡ known_of isa (Source text.now)) }
+        ensures { IfOk result (λ marks. marked marks ≡ known_of isa (Source text.now told)) }
     {
+        if told {
+            let (names, origins) = Origins::told(alloc, text, made)?;
+            return Ok(Marks { names, origins });
+        }
         let (names, origins) = Origins::of(alloc, text, made)?;
         Ok(Marks { names, origins })
     }
@@ -150,7 +160,7 @@ pub fn game<'a>(
 {
     match code {
         Code::Bytes(bytes) => Ok(bytes),
-        Code::Source(text) => {
+        Code::Source { file: text, .. } => {
             let made = make_assembly(alloc, Isa::Chip8, text.as_slice())?;
             raw_game(alloc, edition, &made)
         }
@@ -171,10 +181,10 @@ pub fn marked_game<'a>(
             game,
             marks: Marks::none(alloc),
         }),
-        Code::Source(text) => {
+        Code::Source { file: text, told } => {
             let made = make_assembly(alloc, Isa::Chip8, text.as_slice())?;
             let game = raw_game(alloc, edition, &made)?;
-            let marks = Marks::of(alloc, Isa::Chip8, text.as_slice(), made)?;
+            let marks = Marks::of(alloc, Isa::Chip8, text.as_slice(), told, made)?;
             Ok(MarkedGame { game, marks })
         }
     }
@@ -212,10 +222,10 @@ pub fn marked_program<'a>(
             image: image_of(alloc, memory, program),
             marks: Marks::none(alloc),
         }),
-        Code::Source(text) => {
+        Code::Source { file: text, told } => {
             let made = make_assembly(alloc, Isa::Cdp1802, text.as_slice())?;
             let image = lay_out_both(alloc, &made)?;
-            let marks = Marks::of(alloc, Isa::Cdp1802, text.as_slice(), made)?;
+            let marks = Marks::of(alloc, Isa::Cdp1802, text.as_slice(), told, made)?;
             Ok(MarkedImage { image, marks })
         }
     }

@@ -52,7 +52,7 @@ fn code_file<'a>(kind: Kind, most: usize, code: &Code<&'a str>) -> Wanted<'a>
             most,
             kind,
         },
-        Code::Source(name) => source_file(*name),
+        Code::Source { file, .. } => source_file(*file),
     }
 }
 

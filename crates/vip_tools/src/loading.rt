@@ -21,7 +21,10 @@ fn with_file(code: &Code<&str>, content: Vec<u8>) -> Code<Vec<u8>>
 {
     match code {
         Code::Bytes(_) => Code::Bytes(content),
-        Code::Source(_) => Code::Source(content),
+        Code::Source { told, .. } => Code::Source {
+            file: content,
+            told: *told,
+        },
     }
 }
 

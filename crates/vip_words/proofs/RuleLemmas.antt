@@ -4,8 +4,8 @@ use Rattle.std.specs.List.{list_all, list_any}
 use Rattle.std.specs.Option.{option_or}
 use Rattle.std.specs.Prelude.{not, ◌&&◌, ◌||◌, ◌==◌, if◌then◌else◌, is_none, is_some, option_and_then, option_map}
 use Rattle.std.proofs.lemmas.Bool.{eq-eqb, eqb-false, eqb-true, ne_eqb}
-use Rattle.vip_words.specs.Asked.{asked_behind, asked_of_verb, bounds_by, check_by, code_by, columns_by, cycles_of, debug_by, demo_by, digest_by, dis_by, edition_by, either_by, entry_of, file_by, help_by, is_mixed, is_program, isa_by, link_by, moves_of, place_of, play_by, profile_by, register_of, resume_by, run_by, safe_by, seed_of, shown_by, source_by, start_by, timing_by, trace_by, two_registers, version_by, within_by}
-use Rattle.vip_words.specs.Broken.{RefusedByRule, apart, both_given, broken_after, broken_behind, broken_form, broken_given, broken_words, dues, first_broken, is_due, miscounted, misread, names_of, pairs, run_pairs, same_number, same_register, unknown}
+use Rattle.vip_words.specs.Asked.{asked_behind, asked_of_verb, bounds_by, check_by, code_by, columns_by, cycles_of, debug_by, demo_by, digest_by, dis_by, edition_by, either_by, entry_of, file_by, help_by, is_mixed, is_program, isa_by, lacks_source, link_by, moves_of, place_of, play_by, profile_by, program_by, register_of, resume_by, run_by, safe_by, seed_of, shown_by, source_by, start_by, timing_by, trace_by, two_registers, version_by, within_by}
+use Rattle.vip_words.specs.Broken.{RefusedByRule, alone, apart, both_given, broken_after, broken_behind, broken_form, broken_given, broken_words, dues, first_broken, is_due, miscounted, misread, names_of, needs_source, pairs, run_pairs, same_number, same_register, unknown}
 use Rattle.vip_words.specs.Request.{Asked}
 use Rattle.vip_words.specs.Rules.{Given, Word, every_option, flag_option, given_by, has_values, is_accepted, is_given, is_known, is_once, keys_value, positional_words}
 use Rattle.vip_words.specs.Table.{Row, is_alone, is_why, places_of, row, verb_of}
@@ -108,7 +108,7 @@ Refuses v given = is_some (broken_given v given) ≡ is_none (asked_of_verb v gi
 abbrev broken_by : Verb → List Word → Given → Option (Rule Word)
 broken_by v words given =
     option_or (misread (dues v (isa_by (given.has flag.Chip8))) words)
-    (option_or (same_register v words) (option_map apart (find (both_given given) (pairs v))))
+    (option_or (same_register v words) (option_or (alone v given) (option_map apart (find (both_given given) (pairs v)))))
 
 -- lists of a few words
 none : (P : List Word → Type 0) → P [] → (words : List Word) → length words ≡ 0 → P words
@@ -225,15 +225,24 @@ run_refused file cycles given shown =
     ∙ ap (λ b. b || not (is_some (cycles_of cycles))) (started (given.has flag.State) (given.has flag.Tall) (given.has flag.Asm) _ _)
 
 either_refused : (file cycles : Word) (given : Given) (shown : Show Word) (program_shown : ProgramShow Word) (r : Rule Word)
-    → is_some (option_or (if is_some (cycles_of cycles) then None else Some r) (option_map apart (find (both_given given) run_pairs)))
+    → is_some (option_or (if is_some (cycles_of cycles) then None else Some r) (option_or (needs_source given) (option_map apart (find (both_given given) run_pairs))))
     ≡ is_none (either_by file cycles given shown program_shown)
-either_refused file cycles given shown program_shown r =
-    let last : Bool = not (is_some (cycles_of cycles)) in
-    read_or_pair (is_some (cycles_of cycles)) r _
-    ∙ ap (λ b. b || last) (found_pair given run_pairs ∙ game_pairs (given.has flag.Rom) (given.has flag.Ram) (given.has flag.State) (given.has flag.Tall)
-    (given.has flag.Screen) (given.has flag.Words) (given.has flag.At) (given.has flag.Asm))
-    ∙ sym (either_none (is_program given) (is_mixed given) (given.has flag.State && (given.has flag.Tall || given.has flag.Asm)) last _ _
-    (program_none (is_mixed given) _ (cycles_of cycles)) (run_refused file cycles given shown))
+either_refused file cycles given shown program_shown r = by (lacks_source given)
+  where
+    last : Bool
+    last = not (is_some (cycles_of cycles))
+
+    by : (b : Bool)
+        → is_some (option_or (if is_some (cycles_of cycles) then None else Some r)
+        (option_or (if b then Some (rule.Needs flag.Source flag.Asm) else None) (option_map apart (find (both_given given) run_pairs))))
+        ≡ is_none (if b then None else if is_program given then program_by file cycles given program_shown else run_by file cycles given shown)
+    by true = read_or_pair (is_some (cycles_of cycles)) r _
+    by false =
+        read_or_pair (is_some (cycles_of cycles)) r _
+        ∙ ap (λ b. b || last) (found_pair given run_pairs ∙ game_pairs (given.has flag.Rom) (given.has flag.Ram) (given.has flag.State) (given.has flag.Tall)
+        (given.has flag.Screen) (given.has flag.Words) (given.has flag.At) (given.has flag.Asm))
+        ∙ sym (either_none (is_program given) (is_mixed given) (given.has flag.State && (given.has flag.Tall || given.has flag.Asm)) last _ _
+        (program_none (is_mixed given) _ (cycles_of cycles)) (run_refused file cycles given shown))
 
 shown_refused : (file cycles : Word) (given : Given) (shown : Show Word) (r : Rule Word)
     → is_some (option_or (if is_some (cycles_of cycles) then None else Some r) (option_map apart (find (both_given given) ((flag.State, flag.Tall) ∷ (flag.State, flag.Asm) ∷ []))))
@@ -339,7 +348,7 @@ verb_refused verb.Safe alone given named n =
     two (λ ws. is_some (broken_by verb.Safe ws given) ≡ is_none (safe_by ws given)) (λ game certificate. refl) given.positional (n ∙ always alone 2)
 verb_refused verb.Certify alone given named n =
     one (λ ws. is_some (broken_by verb.Certify ws given)
-    ≡ is_none (option_map (λ game. request.Certify (code_by (given.has flag.Asm) game) (edition_by (given.has flag.Tall))) (file_by ws))) (λ game. refl)
+    ≡ is_none (option_map (λ game. request.Certify (code_by (given.has flag.Asm) false game) (edition_by (given.has flag.Tall))) (file_by ws))) (λ game. refl)
     given.positional (n ∙ always alone 1)
 verb_refused verb.Help alone given named n = help_refused alone given n
 verb_refused verb.Version alone given named n =

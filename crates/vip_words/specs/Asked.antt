@@ -1,5 +1,5 @@
 -- What the words of a command line ask for.
-use Rattle.std.specs.Prelude.{ℕ, List, [], ◌∷◌, Bool, ◌&&◌, ◌||◌, ◌==◌, if◌then◌else◌, nat_le, nat_lt, length, Option, None, Some, option_map, option_and_then}
+use Rattle.std.specs.Prelude.{ℕ, List, [], ◌∷◌, Bool, false, not, ◌&&◌, ◌||◌, ◌==◌, if◌then◌else◌, nat_le, nat_lt, length, Option, None, Some, option_map, option_and_then}
 use Rattle.std.specs.List.{list_any}
 use Rattle.std.specs.Result.{result_ok}
 use Rattle.chip8_lang.specs.declared.view.Edition.{Edition}
@@ -88,16 +88,16 @@ isa_by chip8 = if chip8 then Chip8 else Cdp1802
 
 -- ---- what is run, and what is shown of it
 
--- what a file is: a source where that is asked for, and else the bytes themselves
-abbrev pub code_by : Bool → Word → Code Word
-code_by asm file = if asm then Source file else Bytes file
+-- what a file is: a source where that is asked for, whose lines may be told, and else the bytes themselves
+abbrev pub code_by : Bool → Bool → Word → Code Word
+code_by asm told file = if asm then Source file told else Bytes file
 
 -- Where a run begins whose file has this name: at a saved state, or at a game's reset. A state has its own edition and is no source, so `--tall` and `--asm`
 -- are refused with it.
 abbrev pub start_by : Word → Given → Option (Start Word)
 start_by file given =
     if given.has flag.State then (if given.has flag.Tall || given.has flag.Asm then None else Some (start.State file))
-    else Some (start.Game (code_by (given.has flag.Asm) file) (edition_by (given.has flag.Tall)))
+    else Some (start.Game (code_by (given.has flag.Asm) (given.has flag.Source) file) (edition_by (given.has flag.Tall)))
 
 -- a run of the language from there, for as many cycles as a word says, that is shown so
 abbrev pub run_by : Word → Word → Given → Show Word → Option Asked
@@ -123,13 +123,18 @@ abbrev pub program_by : Word → Word → Given → ProgramShow Word → Option 
 program_by file cycles given shown =
     if is_mixed given then None
     else option_map
-    (λ n. request.Program (record { code = code_by (given.has flag.Asm) file; memory = if given.has flag.Rom then Rom else Ram; keys = given.keys; limit = n; show = shown }))
+    (λ n. request.Program (record { code = code_by (given.has flag.Asm) (given.has flag.Source) file; memory = if given.has flag.Rom then Rom else Ram; keys = given.keys; limit = n; show = shown }))
     (cycles_of cycles)
 
--- a run of a program where the options ask for one, and else one of the language
+-- the lines of a source are to be told where there is none
+abbrev pub lacks_source : Given → Bool
+lacks_source given = given.has flag.Source && not (given.has flag.Asm)
+
+-- A run of a program where the options ask for one, and else one of the language. Words that ask for the lines of a source are refused where there is none.
 abbrev pub either_by : Word → Word → Given → Show Word → ProgramShow Word → Option Asked
 either_by file cycles given shown program_shown =
-    if is_program given then program_by file cycles given program_shown else run_by file cycles given shown
+    if lacks_source given then None
+    else if is_program given then program_by file cycles given program_shown else run_by file cycles given shown
 
 -- ---- the positional words of each verb
 
@@ -230,7 +235,7 @@ timing_by _ = None
 
 -- GAME CERT
 abbrev pub safe_by : List Word → Given → Option Asked
-safe_by (game ∷ certificate ∷ []) given = Some (request.Safe (code_by (given.has flag.Asm) game) certificate (edition_by (given.has flag.Tall)))
+safe_by (game ∷ certificate ∷ []) given = Some (request.Safe (code_by (given.has flag.Asm) false game) certificate (edition_by (given.has flag.Tall)))
 safe_by _ given = None
 
 -- FILE, whose name is in the text that is written
@@ -268,7 +273,7 @@ asked_of_verb verb.Bounds given = bounds_by given.positional
 asked_of_verb verb.Cycles given = within_by given.positional given
 asked_of_verb verb.Timing given = timing_by given.positional
 asked_of_verb verb.Safe given = safe_by given.positional given
-asked_of_verb verb.Certify given = option_map (λ game. request.Certify (code_by (given.has flag.Asm) game) (edition_by (given.has flag.Tall))) (file_by given.positional)
+asked_of_verb verb.Certify given = option_map (λ game. request.Certify (code_by (given.has flag.Asm) false game) (edition_by (given.has flag.Tall))) (file_by given.positional)
 asked_of_verb verb.Help given = help_by given.positional
 asked_of_verb verb.Version given = version_by given.positional
 asked_of_verb verb.Why given = None

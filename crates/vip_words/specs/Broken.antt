@@ -5,7 +5,7 @@ use Rattle.std.specs.Prelude.{◌≡◌, ℕ, List, [], ◌∷◌, Bool, true, f
 use Rattle.std.specs.Option.{option_or}
 use Rattle.asm_lex.specs.declared.shape.Isa.{Isa}
 use Rattle.asm_lex.specs.declared.shape.Isa.TheVariants.{Cdp1802, Chip8}
-use Rattle.vip_words.specs.Asked.{asked_by, cycles_of, entry_of, isa_by, moves_of, place_of, register_of, seed_of}
+use Rattle.vip_words.specs.Asked.{asked_by, cycles_of, entry_of, isa_by, lacks_source, moves_of, place_of, register_of, seed_of}
 use Rattle.vip_words.specs.Rules.{Given, Word, every_option, given_by, has_values, is_known, is_once, positional_words}
 use Rattle.vip_words.specs.Table.{Row, is_alone, is_why, places_of, row, verb_of}
 use Rattle.vip_words.specs.declared.broken.Broken.{Broken}
@@ -113,10 +113,22 @@ abbrev pub same_register : Verb → List Word → Option (Rule Word)
 same_register verb.Timing (file ∷ entry ∷ p ∷ k ∷ []) = same_number k (register_of p) (register_of k)
 same_register v words = None
 
+-- lines of a source are told where there is one
+abbrev pub needs_source : Given → Option (Rule Word)
+needs_source given = if lacks_source given then Some (rule.Needs flag.Source flag.Asm) else None
+
+-- an option of a verb that stands without the one that it needs
+abbrev pub alone : Verb → Given → Option (Rule Word)
+alone verb.Trace given = needs_source given
+alone verb.Play given = needs_source given
+alone verb.Debug given = needs_source given
+alone verb.Profile given = needs_source given
+alone _ given = None
+
 abbrev pub broken_given : Verb → Given → Option (Rule Word)
 broken_given v given =
     option_or (misread (dues v (isa_by (given.has flag.Chip8))) given.positional)
-    (option_or (same_register v given.positional) (option_map apart (find (both_given given) (pairs v))))
+    (option_or (same_register v given.positional) (option_or (alone v given) (option_map apart (find (both_given given) (pairs v)))))
 
 -- ---- the first rule that is broken
 
@@ -157,6 +169,7 @@ module _ {A B : Type 0} (f : A → B) where
   map_rule (rule.TooMany word) = rule.TooMany (f word)
   map_rule (rule.Misread d word) = rule.Misread d (f word)
   map_rule (rule.Same word) = rule.Same (f word)
+  map_rule (rule.Needs first second) = rule.Needs first second
   map_rule (rule.Apart first second) = rule.Apart first second
 
   abbrev pub map_broken : Broken A → Broken B

@@ -20,7 +20,7 @@ use Rattle.vip_words.specs.declared.request.Start.TheVariants as start
 module _ {A B : Type 0} (f : A → B) where
   abbrev pub map_code : Code A → Code B
   map_code (code.Bytes file) = code.Bytes (f file)
-  map_code (code.Source file) = code.Source (f file)
+  map_code (code.Source file told) = code.Source (f file) told
 
   abbrev pub map_start : Start A → Start B
   map_start (start.Game game edition) = start.Game (map_code game) edition

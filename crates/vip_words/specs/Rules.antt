@@ -7,7 +7,7 @@
 use Rattle.std.specs.List.{list_all, list_any}
 use Rattle.std.specs.Prelude.{ℕ, List, [], ◌∷◌, ◌++◌, Bool, true, false, not, ◌&&◌, ◌||◌, ◌==◌, Option, Some, None, length, map, slice_get, bytes_eq, if◌then◌else◌, codes}
 use Rattle.vip_words.specs.declared.flag.Flag.{Flag}
-use Rattle.vip_words.specs.declared.flag.Flag.TheVariants.{Asm, At, Chip8, Echo, Exits, Ram, Raw, Receiver, Rom, Screen, Sender, State, Tall, Words}
+use Rattle.vip_words.specs.declared.flag.Flag.TheVariants.{Asm, At, Chip8, Echo, Exits, Ram, Raw, Receiver, Rom, Screen, Sender, Source, State, Tall, Words}
 
 -- a word, as its bytes
 abbrev pub Word : Type 0
@@ -33,10 +33,11 @@ flag_name Rom = codes "rom"
 flag_name Ram = codes "ram"
 flag_name Sender = codes "sender"
 flag_name Receiver = codes "receiver"
+flag_name Source = codes "source"
 
 -- every flag, in order
 abbrev pub every_flag : List Flag
-every_flag = At ∷ Screen ∷ Words ∷ Tall ∷ State ∷ Raw ∷ Chip8 ∷ Asm ∷ Echo ∷ Exits ∷ Rom ∷ Ram ∷ Sender ∷ Receiver ∷ []
+every_flag = At ∷ Screen ∷ Words ∷ Tall ∷ State ∷ Raw ∷ Chip8 ∷ Asm ∷ Echo ∷ Exits ∷ Rom ∷ Ram ∷ Sender ∷ Receiver ∷ Source ∷ []
 
 -- a flag as it is spelled
 abbrev pub flag_option : Flag → Word

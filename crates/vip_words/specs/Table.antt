@@ -30,19 +30,19 @@ made_row name words may_stand_alone options writes example texts = record {
 
 abbrev pub row : Verb → Row
 row verb.Trace =
-    made_row (codes "trace") (codes "FILE" ∷ codes "CYCLES" ∷ []) false (keys_option ∷ map flag_option (flag.At ∷ flag.Screen ∷ flag.Words ∷ flag.Tall ∷ flag.State ∷ flag.Asm ∷ flag.Rom ∷ flag.Ram ∷ []))
+    made_row (codes "trace") (codes "FILE" ∷ codes "CYCLES" ∷ []) false (keys_option ∷ map flag_option (flag.At ∷ flag.Screen ∷ flag.Words ∷ flag.Tall ∷ flag.State ∷ flag.Asm ∷ flag.Source ∷ flag.Rom ∷ flag.Ram ∷ []))
     (codes "each instruction that a run met") (codes "vip trace ball.ch8 600000 --at") (codes "FORMATS.md, A trace; The trace of a program")
 row verb.Play =
     made_row (codes "play") (codes "FILE" ∷ codes "CYCLES" ∷ []) false (keys_option ∷ map flag_option (flag.Tall ∷ flag.State ∷ flag.Asm ∷ flag.Rom ∷ flag.Ram ∷ []))
     (codes "each picture of a run") (codes "vip play maze.ch8 600000 > maze.pbm") (codes "FORMATS.md, A screen and a picture")
 row verb.Debug =
-    made_row (codes "debug") (codes "FILE" ∷ codes "CYCLES" ∷ codes "COMMANDS" ∷ []) false (keys_option ∷ map flag_option (flag.Words ∷ flag.Tall ∷ flag.State ∷ flag.Asm ∷ flag.Echo ∷ flag.Rom ∷ flag.Ram ∷ []))
+    made_row (codes "debug") (codes "FILE" ∷ codes "CYCLES" ∷ codes "COMMANDS" ∷ []) false (keys_option ∷ map flag_option (flag.Words ∷ flag.Tall ∷ flag.State ∷ flag.Asm ∷ flag.Source ∷ flag.Echo ∷ flag.Rom ∷ flag.Ram ∷ []))
     (codes "the answers to commands") (codes "vip debug count.ch8 99999 count.debug") (codes "FORMATS.md, The debugger's commands")
 row verb.Save =
     made_row (codes "save") (codes "FILE" ∷ codes "CYCLES" ∷ []) false (keys_option ∷ map flag_option (flag.Tall ∷ flag.State ∷ flag.Asm ∷ []))
     (codes "the state of the machine as a file") (codes "vip save maze.ch8 300000 > maze.state") (codes "FORMATS.md, A machine state")
 row verb.Profile =
-    made_row (codes "profile") (codes "FILE" ∷ codes "CYCLES" ∷ []) false (keys_option ∷ map flag_option (flag.Tall ∷ flag.State ∷ flag.Asm ∷ flag.Rom ∷ flag.Ram ∷ []))
+    made_row (codes "profile") (codes "FILE" ∷ codes "CYCLES" ∷ []) false (keys_option ∷ map flag_option (flag.Tall ∷ flag.State ∷ flag.Asm ∷ flag.Source ∷ flag.Rom ∷ flag.Ram ∷ []))
     (codes "where the time of a run goes") (codes "vip profile maze.ch8 1000000") (codes "FORMATS.md, A profile")
 row verb.Resume =
     made_row (codes "resume") (codes "STATE" ∷ codes "CYCLES" ∷ []) false (keys_option ∷ map flag_option (flag.At ∷ []))
@@ -181,6 +181,7 @@ about_options =
     ∷ (flag_option flag.Ram, codes "a program in RAM instead of a game")
     ∷ (flag_option flag.Sender, codes "the program that sends a message")
     ∷ (flag_option flag.Receiver, codes "the program that receives it")
+    ∷ (flag_option flag.Source, codes "the line of the source that gave it")
     ∷ []
 
 abbrev pub about : Word → List ℕ

@@ -71,6 +71,7 @@ rule_text verb (rule.Lacks name) = verb ++ (codes " lacks " ++ name)
 rule_text verb (rule.TooMany word) = verb ++ (codes " has no place for " ++ word)
 rule_text verb (rule.Misread d word) = due_text d ++ (codes ", and " ++ (word ++ codes " is none"))
 rule_text verb (rule.Same word) = codes "P and K are two registers, and both are " ++ word
+rule_text verb (rule.Needs first second) = codes "--" ++ (flag_name first ++ (codes " needs --" ++ flag_name second))
 rule_text verb (rule.Apart first second) = codes "--" ++ (flag_name first ++ (codes " and --" ++ (flag_name second ++ codes " don't go together")))
 
 abbrev pub broken_text : Broken Word → List ℕ
@@ -86,7 +87,7 @@ text_if holds text = if holds then text else []
 
 abbrev pub code_text : Code Word → List ℕ
 code_text (Bytes file) = file ++ codes ", taken as bytes"
-code_text (Source file) = file ++ codes ", taken as a source"
+code_text (Source file told) = file ++ (codes ", taken as a source" ++ text_if told (codes ", with --source"))
 
 abbrev pub game_text : Edition → List ℕ
 game_text Usual = codes "the game in "
@@ -215,7 +216,7 @@ is_source_name name =
 
 abbrev pub code_hint : Code Word → List ℕ
 code_hint (Bytes file) = text_if (is_source_name file) (codes "vip: " ++ (file ++ (codes " was run as bytes; --asm runs a source" ++ newline)))
-code_hint (Source file) = []
+code_hint (Source file told) = []
 
 abbrev pub start_hint : Start Word → List ℕ
 start_hint (start.Game code edition) = code_hint code

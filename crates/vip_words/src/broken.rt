@@ -2,7 +2,7 @@
 
 ghost use Rattle.std.specs.Prelude.{◌≡◌, ◌<◌, IfOk, bytes_eq, drop, false, find, length, map, not, option_map, string_bytes};
 ghost use Rattle.std.specs.List.{list_any};
-ghost use Rattle.vip_words.specs.Broken.{RefusedByRule, both_given, broken_form, broken_given, broken_of_verb, broken_words, dues, first_broken, is_due, miscounted, misread, names_of, pairs, same_register, unknown};
+ghost use Rattle.vip_words.specs.Broken.{RefusedByRule, alone, both_given, broken_form, broken_given, broken_of_verb, broken_words, dues, first_broken, is_due, miscounted, misread, names_of, pairs, same_register, unknown};
 ghost use Rattle.vip_words.specs.Given.{positional_of, seen_given};
 ghost use Rattle.vip_words.specs.Rules.{every_option, has_values, is_given, is_known, is_once, positional_words};
 ghost use Rattle.vip_words.specs.Spelled.{broken_of, rule_of};
@@ -13,7 +13,7 @@ use crate::flag::Flag;
 use crate::given::{Given, Positional, WordsFail, is_known, is_plain, read_given};
 use crate::moves::Moves;
 use crate::place::Place;
-use crate::request::{isa_by, read_entry, read_register, read_seed};
+use crate::request::{isa_by, lacks_source, read_entry, read_register, read_seed};
 use crate::table::{ABOUT, Row, Verb};
 use asm_lex::Isa;
 use std::alloc::{AllocError, Global};
@@ -63,6 +63,8 @@ pub enum Rule<N> {
     Misread(Due, N),
     /// The program counter and the counter are the register of this word.
     Same(N),
+    /// The first of these two options stands without the second.
+    Needs(Flag, Flag),
     /// These two options don't go together.
     Apart(Flag, Flag),
 }
@@ -168,6 +170,18 @@ fn same_register<'a>(verb: Verb, positional: Positional<'a>) -> Option<Rule<&'a 
     }
 }
 
+/// An option of a verb that stands without the one that it needs: lines of a source are told where there is one.
+fn alone<'a>(verb: Verb, given: &Given<'a>) -> Option<Rule<&'a str>>
+    ensures { option_map rule_of result ≡ alone verb (seen_given given.now) }
+{
+    match verb {
+        Verb::Trace | Verb::Play | Verb::Debug | Verb::Profile if lacks_source(given) => {
+            Some(Rule::Needs(Flag::Source, Flag::Asm))
+        }
+        _ => None,
+    }
+}
+
 /// The pairs of a verb's options that don't go together: a program has one memory, and is no game; a saved state has its own edition, and is no source; and
 /// the programs of joined boards have no editions.
 fn pairs(verb: Verb) -> &'static [(Flag, Flag)]
@@ -218,6 +232,9 @@ fn broken_given<'a>(verb: Verb, given: &Given<'a>) -> Option<Rule<&'a str>>
         return Some(rule);
     }
     if let Some(rule) = same_register(verb, given.positional) {
+        return Some(rule);
+    }
+    if let Some(rule) = alone(verb, given) {
         return Some(rule);
     }
     let (first, second) = pair_given(pairs(verb), given)?;

@@ -30,7 +30,7 @@ enum Argument {
 }
 
 /// Every option of the program, and behind them the positional words.
-const ARGUMENTS: [Argument; 19] = [
+const ARGUMENTS: [Argument; 20] = [
     Argument::Keys,
     Argument::Switch(Flag::At),
     Argument::Switch(Flag::Screen),
@@ -46,6 +46,7 @@ const ARGUMENTS: [Argument; 19] = [
     Argument::Switch(Flag::Ram),
     Argument::Switch(Flag::Sender),
     Argument::Switch(Flag::Receiver),
+    Argument::Switch(Flag::Source),
     Argument::Place(FIRST),
     Argument::Place(SECOND),
     Argument::Place(THIRD),

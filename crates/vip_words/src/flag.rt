@@ -20,6 +20,7 @@ pub enum Flag {
     Ram,
     Sender,
     Receiver,
+    Source,
 }
 
 impl Flag {
@@ -42,6 +43,7 @@ impl Flag {
             Flag::Ram => "ram",
             Flag::Sender => "sender",
             Flag::Receiver => "receiver",
+            Flag::Source => "source",
         }
     }
 }

@@ -1,7 +1,7 @@
 //! What the words of a command line ask for.
 
 ghost use Rattle.std.specs.Prelude.{◌≡◌, IfErr, IfOk, IsErrOf, None, Some, map, option_map, string_bytes};
-ghost use Rattle.vip_words.specs.Asked.{asked_by, asked_of_verb, built_in_by, code_by, columns_by, edition_by, either_by, entry_of, is_mixed, is_program, isa_by, name_or, number_of, program_by, register_of, run_by, seed_of, start_by, why_of};
+ghost use Rattle.vip_words.specs.Asked.{asked_by, asked_of_verb, built_in_by, code_by, columns_by, edition_by, either_by, entry_of, is_mixed, is_program, isa_by, lacks_source, name_or, number_of, program_by, register_of, run_by, seed_of, start_by, why_of};
 ghost use Rattle.vip_words.specs.Given.{seen_given};
 ghost use Rattle.vip_words.specs.Request.{asked_of, code_of, program_show_of, show_of, start_of};
 ghost use Rattle.vip_words.specs.declared.table.Verb.TheVariants as verb;
@@ -184,8 +184,8 @@ impl FileName {
 pub enum Code<N> {
     /// The bytes themselves.
     Bytes(N),
-    /// A source that gives them: a game's in CHIP-8's words, and a program's in those of the processor.
-    Source(N),
+    /// A source that gives them: a game's in CHIP-8's words, and a program's in those of the processor; and whether its lines are told.
+    Source { file: N, told: bool },
 }
 
 /// A run of the language: from where, under which keys, how long, and what is shown of it.
@@ -374,12 +374,12 @@ pub fn isa_by(chip8: bool) -> Isa
     if chip8 { Isa::Chip8 } else { Isa::Cdp1802 }
 }
 
-/// What the file of this name is: a source where that is asked for, and else the bytes themselves.
-fn code_by<'a>(asm: bool, file: &'a str) -> Code<&'a str>
-    ensures { code_of result ≡ code_by asm file.entry.now }
+/// What the file of this name is: a source where that is asked for, whose lines may be told, and else the bytes themselves.
+fn code_by<'a>(asm: bool, told: bool, file: &'a str) -> Code<&'a str>
+    ensures { code_of result ≡ code_by asm told file.entry.now }
 {
     if asm {
-        Code::Source(file)
+        Code::Source { file, told }
     } else {
         Code::Bytes(file)
     }
@@ -391,7 +391,7 @@ fn read_start<'a>(file: &'a str, given: &Given<'a>) -> Option<Start<&'a str>>
 {
     if !given.has(Flag::State) {
         return Some(Start::Game {
-            code: code_by(given.has(Flag::Asm), file),
+            code: code_by(given.has(Flag::Asm), given.has(Flag::Source), file),
             edition: edition_by(given.has(Flag::Tall)),
         });
     }
@@ -458,12 +458,19 @@ fn program_request<'a>(
         Memory::Ram
     };
     Some(Request::Program(ProgramRequest {
-        code: code_by(given.has(Flag::Asm), file),
+        code: code_by(given.has(Flag::Asm), given.has(Flag::Source), file),
         memory,
         keys: given.keys,
         limit,
         show,
     }))
+}
+
+/// Whether the lines of a source are to be told where there is none.
+pub(crate) fn lacks_source(given: &Given) -> bool
+    ensures { result ≡ lacks_source (seen_given given.now) }
+{
+    given.has(Flag::Source) && !given.has(Flag::Asm)
 }
 
 /// A run of a program where the options ask for one, and else one of the language.
@@ -477,6 +484,9 @@ fn either_request<'a>(
     ensures { option_map asked_of result
         ≡ either_by file.entry.now cycles.now (seen_given given.now) (show_of show.entry) (program_show_of program_show.entry) }
 {
+    if lacks_source(given) {
+        return None;
+    }
     if is_program(given) {
         program_request(file, cycles, given, program_show)
     } else {
@@ -752,7 +762,7 @@ fn safe_request<'a>(given: &Given<'a>) -> Option<Request<&'a str>>
 {
     match given.positional {
         Positional::Two(game, certificate) => Some(Request::Safe {
-            game: code_by(given.has(Flag::Asm), game),
+            game: code_by(given.has(Flag::Asm), false, game),
             certificate,
             edition: edition_by(given.has(Flag::Tall)),
         }),
@@ -765,7 +775,7 @@ fn certify_request<'a>(given: &Given<'a>) -> Option<Request<&'a str>>
 {
     match given.positional {
         Positional::One(game) => Some(Request::Certify {
-            game: code_by(given.has(Flag::Asm), game),
+            game: code_by(given.has(Flag::Asm), false, game),
             edition: edition_by(given.has(Flag::Tall)),
         }),
         _ => None,

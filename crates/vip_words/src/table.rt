@@ -257,14 +257,16 @@ impl Verb {
     {
         match self {
             Verb::Trace => &[
-                "--keys", "--at", "--screen", "--words", "--tall", "--state", "--asm", "--rom",
-                "--ram",
+                "--keys", "--at", "--screen", "--words", "--tall", "--state", "--asm",
+                "--source", "--rom", "--ram",
             ],
-            Verb::Play | Verb::Profile => {
-                &["--keys", "--tall", "--state", "--asm", "--rom", "--ram"]
-            }
+            Verb::Play => &["--keys", "--tall", "--state", "--asm", "--rom", "--ram"],
+            Verb::Profile => &[
+                "--keys", "--tall", "--state", "--asm", "--source", "--rom", "--ram",
+            ],
             Verb::Debug => &[
-                "--keys", "--words", "--tall", "--state", "--asm", "--echo", "--rom", "--ram",
+                "--keys", "--words", "--tall", "--state", "--asm", "--source", "--echo",
+                "--rom", "--ram",
             ],
             Verb::Save => &["--keys", "--tall", "--state", "--asm"],
             Verb::Resume => &["--keys", "--at"],
@@ -372,7 +374,7 @@ impl Verb {
 }
 
 /// Each option, and what is said of it.
-pub const ABOUT: [(&str, &str); 15] = [
+pub const ABOUT: [(&str, &str); 16] = [
     ("--keys", "a key script"),
     ("--at", "the tick and the machine cycle of each line"),
     ("--screen", "the last screen behind the lines"),
@@ -391,6 +393,7 @@ pub const ABOUT: [(&str, &str); 15] = [
     ("--ram", "a program in RAM instead of a game"),
     ("--sender", "the program that sends a message"),
     ("--receiver", "the program that receives it"),
+    ("--source", "the line of the source that gave it"),
 ];
 
 // The first of some lines about options that is about this one.

@@ -74,6 +74,10 @@ impl fmt::Display for Sentence<'_> {
             Rule::TooMany(word) => write!(f, "{verb} has no place for {word}"),
             Rule::Misread(due, word) => write!(f, "{due}, and {word} is none"),
             Rule::Same(word) => write!(f, "P and K are two registers, and both are {word}"),
+            Rule::Needs(first, second) => {
+                let (first, second) = (first.name(), second.name());
+                write!(f, "--{first} needs --{second}")
+            }
             Rule::Apart(first, second) => {
                 let (first, second) = (first.name(), second.name());
                 write!(f, "--{first} and --{second} don't go together")
@@ -112,7 +116,10 @@ impl fmt::Display for Code<&str> {
     fn fmt<W: fmt::Write>(&self, f: &mut fmt::Formatter<W>) -> fmt::Result {
         match self {
             Code::Bytes(file) => write!(f, "{file}, taken as bytes"),
-            Code::Source(file) => write!(f, "{file}, taken as a source"),
+            Code::Source { file, told } => {
+                let told = text_if(*told, ", with --source");
+                write!(f, "{file}, taken as a source{told}")
+            }
         }
     }
 }

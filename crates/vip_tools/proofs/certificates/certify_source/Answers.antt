@@ -1,4 +1,4 @@
-use Rattle.std.proofs.Common.{ap, subst}
+use Rattle.std.proofs.Common.{ap, false, subst}
 use Rattle.std.specs.Prelude.{◌≡◌, IfOk}
 use Rattle.asm_lex.specs.declared.shape.Isa.TheVariants.{Chip8}
 use Rattle.asm_core.specs.Origins.{origins_of}
@@ -18,14 +18,14 @@ use Rattle.vip_tools.proofs.certificates.certify_source.Goals as goal
 pub returns-in_err-made : goal.returns-in_err-made
 returns-in_err-made c =
     let e = c.args.edition in
-    let code = Source c.args.source.items in
+    let code = Source c.args.source.items false in
     passed (TextAnswers (bind (GameComes e code) (CertifyComes e code))) _ _ c.from_residual.ensures.1
     (refused-first (GameComes e code) (CertifyComes e code) _ c.in_err-made.ensures)
 
 pub returns-in_err-text : goal.returns-in_err-text
 returns-in_err-text c =
     let e = c.args.edition in
-    let code = Source c.args.source.items in
+    let code = Source c.args.source.items false in
     let game = c.in_ok-made.made.game.items in
     passed (TextAnswers (bind (GameComes e code) (CertifyComes e code))) _ _ c.from_residual-in_err-text.ensures.1
     (refused-behind (GameComes e code) (CertifyComes e code) game c.in_ok-made.ensures.0.0 _
@@ -35,7 +35,7 @@ returns-in_err-text c =
 pub returns : goal.returns
 returns c =
     let e = c.args.edition in
-    let code = Source c.args.source.items in
+    let code = Source c.args.source.items false in
     let game = c.in_ok-made.made.game.items in
     let text = c.in_ok-text.text.items in
     let r = c.named_proof.result in

@@ -21,10 +21,10 @@ option_of p lines line is these = ap (option_map (λ line. line.0.now)) is ∙ (
 
 pub returns-in-Some : goal.returns-in-Some
 returns-in-Some c =
-    option_of (λ option. not (is_once (map string_bytes c.args.words.now) option)) (_ ∷ _ ∷ _ ∷ _ ∷ _ ∷ _ ∷ _ ∷ _ ∷ _ ∷ _ ∷ _ ∷ _ ∷ _ ∷ _ ∷ _ ∷ []) _
+    option_of (λ option. not (is_once (map string_bytes c.args.words.now) option)) (_ ∷ _ ∷ _ ∷ _ ∷ _ ∷ _ ∷ _ ∷ _ ∷ _ ∷ _ ∷ _ ∷ _ ∷ _ ∷ _ ∷ _ ∷ _ ∷ []) _
     (sym c.in-Some.is ∙ c.twice_of.ensures) refl
 
 pub returns-in-None : goal.returns-in-None
 returns-in-None c =
-    option_of (λ option. not (is_once (map string_bytes c.args.words.now) option)) (_ ∷ _ ∷ _ ∷ _ ∷ _ ∷ _ ∷ _ ∷ _ ∷ _ ∷ _ ∷ _ ∷ _ ∷ _ ∷ _ ∷ _ ∷ []) _
+    option_of (λ option. not (is_once (map string_bytes c.args.words.now) option)) (_ ∷ _ ∷ _ ∷ _ ∷ _ ∷ _ ∷ _ ∷ _ ∷ _ ∷ _ ∷ _ ∷ _ ∷ _ ∷ _ ∷ _ ∷ _ ∷ []) _
     (sym c.in-None.is ∙ c.twice_of.ensures) refl

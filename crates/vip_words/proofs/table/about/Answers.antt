@@ -30,8 +30,8 @@ text_of option lines line is these =
 
 pub returns-in-Some : goal.returns-in-Some
 returns-in-Some c =
-    text_of c.args.option.now (_ ∷ _ ∷ _ ∷ _ ∷ _ ∷ _ ∷ _ ∷ _ ∷ _ ∷ _ ∷ _ ∷ _ ∷ _ ∷ _ ∷ _ ∷ []) _ (sym c.in-Some.is ∙ c.line_about.ensures) refl
+    text_of c.args.option.now (_ ∷ _ ∷ _ ∷ _ ∷ _ ∷ _ ∷ _ ∷ _ ∷ _ ∷ _ ∷ _ ∷ _ ∷ _ ∷ _ ∷ _ ∷ _ ∷ []) _ (sym c.in-Some.is ∙ c.line_about.ensures) refl
 
 pub returns-in-None : goal.returns-in-None
 returns-in-None c =
-    text_of c.args.option.now (_ ∷ _ ∷ _ ∷ _ ∷ _ ∷ _ ∷ _ ∷ _ ∷ _ ∷ _ ∷ _ ∷ _ ∷ _ ∷ _ ∷ _ ∷ []) _ (sym c.in-None.is ∙ c.line_about.ensures) refl
+    text_of c.args.option.now (_ ∷ _ ∷ _ ∷ _ ∷ _ ∷ _ ∷ _ ∷ _ ∷ _ ∷ _ ∷ _ ∷ _ ∷ _ ∷ _ ∷ _ ∷ _ ∷ []) _ (sym c.in-None.is ∙ c.line_about.ensures) refl
