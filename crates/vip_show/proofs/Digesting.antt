@@ -1,11 +1,17 @@
 -- A run on its way whose pieces are hashed: what the hashers hold is what sinks would hold that were put the pieces.
-use Rattle.std.proofs.Common.{◌≡◌, ℕ, ◌+◌, List, [], ◌∷◌, ◌++◌, refl, sym, ap, ◌∙◌, subst, true, append-nil}
+use Rattle.std.proofs.Common.{◌≡◌, ℕ, ◌+◌, List, [], ◌∷◌, ◌++◌, refl, sym, ap, ◌∙◌, subst, true, false, append-nil}
 use Rattle.std.specs.Prelude.{Option, Some, None, Ok, unwrap_or}
 use Rattle.std.specs.Option.{option_map}
 use Rattle.sha2.specs.Hashers.{Holds256}
 use Rattle.sha2.specs.Sha256.{sha256}
 use Rattle.sha2.specs.declared.Sha256.{Sha256}
 use Rattle.chip8_lang.specs.declared.view.StopRecord.{StopRecord}
+use Rattle.asm_core.specs.Origins.{no_origins}
+use Rattle.chip8_lang.specs.View.{View}
+use Rattle.vip_text.specs.Traces.{opcode_bytes, record_text, told_line, trace_line}
+use Rattle.vip_byte.specs.Text.{newline}
+use Rattle.asm_core.specs.Origins.{source_end}
+use Rattle.vip_text.specs.declared.trace.TraceColumns.{TraceColumns}
 use Rattle.vip_outside.specs.Sink.{SinkMeaning, PutsWhole}
 use Rattle.vip_outside.specs.Pieces.{joined, PutsAll}
 use Rattle.vip_relation.specs.State.{VipState, events_left, events_to}
@@ -15,8 +21,7 @@ use Rattle.vip_text.specs.Endings.{ending_in}
 use Rattle.vip_text.specs.declared.ending.RunEnd.{RunEnd}
 use Rattle.vip_text.specs.declared.ending.RunEnd.TheVariants as end
 use Rattle.vip_show.specs.declared.digests.Digests.{Digests}
-use Rattle.vip_show.specs.declared.run.Shown.{Shown}
-use Rattle.vip_show.specs.declared.run.Shown.TheVariants.{Lines, Pictures}
+use Rattle.vip_show.specs.Run.Told.{Lines, Pictures}
 use Rattle.vip_show.specs.declared.run.Tally.{Tally}
 use Rattle.vip_show.specs.Answers.{IsFresh, run_pictures, run_trace}
 use Rattle.vip_show.specs.Digests.{AddsPiece, IsDigested, digested_columns}
@@ -37,12 +42,24 @@ pub adds-told : {X : Type 0} (f : X → List ℕ) (found : Option X) (x : X) (by
     → Holds256 hasher (message ++ bytes) → Holds256 hasher (message ++ unwrap_or (option_map f found) [])
 adds-told f found x bytes message hasher is same holds = rw is (subst (λ b. Holds256 hasher (message ++ b)) same holds)
 
+-- the line of a state of no source
+untold : (pc : ℕ) (opcode : Option ℕ) → source_end no_origins false pc (opcode_bytes opcode) ≡ []
+untold pc None = refl
+untold pc (Some opcode) = refl
+
+pub line-alone : (columns : TraceColumns) (view : View) → trace_line columns view ≡ told_line no_origins columns view
+line-alone columns view = ap (λ end. record_text columns view ++ end ++ newline) (sym (untold view.pc view.opcode))
+
+pub adds-line : (view : View) (trace trace' : Sha256) → AddsPiece (Some (trace_line digested_columns view)) trace trace'
+    → AddsPiece (Some (told_line no_origins digested_columns view)) trace trace'
+adds-line view trace trace' adds = subst (λ line. AddsPiece (Some line) trace trace') (line-alone digested_columns view) adds
+
 -- From a start up to v, with so many points met: the hashers hold the lines and the pictures of the events that are met.
 pub record Digesting (limit : ℕ) (start v : VipState) (trace pictures : Sha256) (points : ℕ) : Type 0 where
   pub lines : List ℕ
   pub files : List ℕ
   pub count : ℕ
-  pub lined : EventsShown (Lines digested_columns) limit start v (holding []) (holding lines) points count
+  pub lined : EventsShown (Lines no_origins digested_columns) limit start v (holding []) (holding lines) points count
   pub pictured : EventsShown Pictures limit start v (holding []) (holding files) points count
   pub holds_lines : Holds256 trace lines
   pub holds_files : Holds256 pictures files
@@ -54,23 +71,23 @@ module _ (limit : ℕ) (start : VipState) where
     lines = [];
     files = [];
     count = 0;
-    lined = events_shown-first (Lines digested_columns) limit start (holding []) fresh;
+    lined = events_shown-first (Lines no_origins digested_columns) limit start (holding []) fresh;
     pictured = events_shown-first Pictures limit start (holding []) fresh;
     holds_lines = lines;
     holds_files = files;
   }
 
   module _ (v v' : VipState) (trace pictures : Sha256) (points : ℕ) (g : Digesting limit start v trace pictures points) where
-    pub digesting-dispatch : (d : Dispatched limit v v' (events_left v limit)) (trace' : Sha256) → AddsPiece (event_piece (Lines digested_columns) met.Dispatch v') trace trace'
+    pub digesting-dispatch : (d : Dispatched limit v v' (events_left v limit)) (trace' : Sha256) → AddsPiece (event_piece (Lines no_origins digested_columns) met.Dispatch v') trace trace'
         → Digesting limit start v' trace' pictures (points + 1)
     digesting-dispatch d trace' adds =
-        let line = event_piece (Lines digested_columns) met.Dispatch v' in
+        let line = event_piece (Lines no_origins digested_columns) met.Dispatch v' in
         record {
           lines = g.lines ++ unwrap_or line [];
           files = g.files;
           count = g.count;
           lined =
-              puts-dispatch (Lines digested_columns) limit start (holding []) v v' (holding g.lines) points g.count g.lined (holding (g.lines ++ unwrap_or line [])) d tt
+              puts-dispatch (Lines no_origins digested_columns) limit start (holding []) v v' (holding g.lines) points g.count g.lined (holding (g.lines ++ unwrap_or line [])) d tt
               (put-piece line g.lines);
           pictured = puts-dispatch Pictures limit start (holding []) v v' (holding g.files) points g.count g.pictured (holding g.files) d tt (refl, refl);
           holds_lines = adds g.lines g.holds_lines;
@@ -85,7 +102,7 @@ module _ (limit : ℕ) (start : VipState) where
           lines = g.lines;
           files = g.files ++ unwrap_or file [];
           count = g.count + 1;
-          lined = puts-picture (Lines digested_columns) limit start (holding []) v v' (holding g.lines) points g.count g.lined (holding g.lines) d tt (refl, refl);
+          lined = puts-picture (Lines no_origins digested_columns) limit start (holding []) v v' (holding g.lines) points g.count g.lined (holding g.lines) d tt (refl, refl);
           pictured =
               puts-picture Pictures limit start (holding []) v v' (holding g.files) points g.count g.pictured (holding (g.files ++ unwrap_or file [])) d tt
               (put-piece file g.files);
@@ -95,14 +112,14 @@ module _ (limit : ℕ) (start : VipState) where
 
     -- what is told at the end, by what the run has come to
     module _ (tally : Tally) (digests : Digests) (points_is : digests.points ≡ tally.dispatches) (end_is : digests.end ≡ tally.end)
-        (lined : Ran (Lines digested_columns) limit start v' (holding []) (holding g.lines) tally)
+        (lined : Ran (Lines no_origins digested_columns) limit start v' (holding []) (holding g.lines) tally)
         (pictured : Ran Pictures limit start v' (holding []) (holding g.files) tally)
         (traced : (lines : List ℕ) → Holds256 trace lines → digests.trace ≡ sha256 (lines ++ unwrap_or (screen_told v') []))
         (filmed : (files : List ℕ) → Holds256 pictures files → digests.pictures ≡ sha256 files) where
       pub digested : IsDigested start limit digests
       digested =
           let whole =
-          traced-whole digested_columns limit start v' (holding []) (holding g.lines) (holding (g.lines ++ unwrap_or (screen_told v') [])) tally lined refl tt
+          traced-whole no_origins digested_columns limit start v' (holding []) (holding g.lines) (holding (g.lines ++ unwrap_or (screen_told v') [])) tally lined refl tt
           (put-piece (screen_told v') g.lines) in
           let films = subst (λ pieces. PutsAll pieces (holding []) (holding g.files)) (pictures-are start limit) pictured.puts in
           record {

@@ -27,17 +27,17 @@ use Rattle.vip_relation.specs.State.{Start, VipState, events_from, first_events,
 use Rattle.vip_relation.specs.Stops.{pc_of, opcode_of}
 use Rattle.vip_relation.specs.declared.run.Met.TheVariants as met
 use Rattle.vip_text.specs.Endings.{ending_in}
+use Rattle.asm_core.specs.Origins.{Origins}
 use Rattle.vip_text.specs.Endings.Ending.{AtStop}
 use Rattle.vip_text.specs.declared.ending.RunEnd.{RunEnd}
 use Rattle.vip_text.specs.declared.ending.RunEnd.TheVariants as run
 use Rattle.vip_text.specs.declared.trace.TraceColumns.{TraceColumns}
-use Rattle.vip_show.specs.declared.run.Shown.{Shown}
-use Rattle.vip_show.specs.declared.run.Shown.TheVariants.{Lines, Pictures, Nothing}
 use Rattle.vip_show.specs.declared.run.Tally.{Tally}
 use Rattle.vip_show.specs.Answers.{summary_of, IsFresh, ShowsRun, ShowAnswers, run_trace, run_pictures, run_summary}
 use Rattle.vip_show.specs.Endings.{ending_after, ending_of}
 use Rattle.vip_show.specs.Output.{count_of, is_dispatch_event, is_picture_event, trace_lines, picture_pieces, screen_piece, lit_at}
-use Rattle.vip_show.specs.Run.{piece_of, pieces_of, event_piece, screen_told, lit_told, PieceAnswers, Ran, RunAnswers}
+use Rattle.vip_show.specs.Run.Told.{Lines, Pictures, Nothing}
+use Rattle.vip_show.specs.Run.{Told, piece_of, pieces_of, event_piece, screen_told, lit_told, PieceAnswers, Ran, RunAnswers}
 use Rattle.vip_relation.proofs.Meetings.{last-dispatched, last-kept}
 use Rattle.vip_relation.proofs.Nexts.{Dispatched, Pictured, Halted, Ended}
 use Rattle.vip_show.proofs.Endings.{last-told, ends-dispatch, ends-picture}
@@ -127,7 +127,7 @@ none-first v fresh none = by_start v.start (sym fresh.last ∙ none)
 -- ---- on its way
 
 -- From a start up to v, with these counts: of the events up to the limit some are met and written.
-pub record EventsShown (shown : Shown) (limit : ℕ) (start v : VipState) (out out' : SinkMeaning) (dispatches pictures : ℕ) : Type 0 where
+pub record EventsShown (shown : Told) (limit : ℕ) (start v : VipState) (out out' : SinkMeaning) (dispatches pictures : ℕ) : Type 0 where
   pub edition : v.edition ≡ start.edition
   pub begun : v.start ≡ start.start
   pub script : v.board.script ≡ start.board.script
@@ -144,7 +144,7 @@ pub record EventsShown (shown : Shown) (limit : ℕ) (start v : VipState) (out o
   pub screen : v.shown ≡ last_screen start.edition done
   pub ends : ending_of start.edition (events_to start limit) ≡ ending_after start.edition (pc_of v.last) (opcode_of v.last) (events_left v limit)
 
-module _ (shown : Shown) (limit : ℕ) (start : VipState) (out : SinkMeaning) where
+module _ (shown : Told) (limit : ℕ) (start : VipState) (out : SinkMeaning) where
   -- no event was met
   pub events_shown-first : IsFresh start → EventsShown shown limit start start out out 0 0
   events_shown-first fresh = record {
@@ -275,16 +275,16 @@ puts-piece : (piece : Option (List ℕ)) (old new : SinkMeaning) (done : Unit {0
 puts-piece None old new done put = rw put.1 (PutsAll-nil old)
 puts-piece (Some piece) old new done put = PutsAll-one piece old new put
 
-module _ (shown : Shown) (limit : ℕ) (start : VipState) (out : SinkMeaning) (v v' : VipState) (out' : SinkMeaning) (dispatches pictures : ℕ) (g : EventsShown shown limit start v out out' dispatches pictures) where
-  dispatch_piece : (s : Shown) (d : Dispatched limit v v' (events_left v limit))
+module _ (shown : Told) (limit : ℕ) (start : VipState) (out : SinkMeaning) (v v' : VipState) (out' : SinkMeaning) (dispatches pictures : ℕ) (g : EventsShown shown limit start v out out' dispatches pictures) where
+  dispatch_piece : (s : Told) (d : Dispatched limit v v' (events_left v limit))
       → option_to_list (event_piece s met.Dispatch v') ≡ piece_of s start.edition (interpreter start).rom (run_of start limit) (Dispatch d.b)
-  dispatch_piece (Lines columns) d = rw (d.meets.machine, d.meets.one.same.edition, g.edition) refl
+  dispatch_piece (Lines origins columns) d = rw (d.meets.machine, d.meets.one.same.edition, g.edition) refl
   dispatch_piece Pictures d = refl
   dispatch_piece Nothing d = refl
 
-  picture_piece_is : (s : Shown) (d : Pictured limit v v' (events_left v limit))
+  picture_piece_is : (s : Told) (d : Pictured limit v v' (events_left v limit))
       → option_to_list (event_piece s met.Picture v') ≡ piece_of s start.edition (interpreter start).rom (run_of start limit) (Picture d.m)
-  picture_piece_is (Lines columns) d = refl
+  picture_piece_is (Lines origins columns) d = refl
   picture_piece_is Pictures d = rw (picture-lent shown limit start out v v' out' out' dispatches pictures g d) refl
   picture_piece_is Nothing d = refl
 
@@ -325,14 +325,14 @@ screen-here limit v v' left d bytes is =
     is ∙ ap (λ e. screen_bytes e v'.board.machine) d.meets.one.same.edition ∙ ap (screen_bytes v.edition) d.meets.machine ∙ sym d.meets.shown
 
 -- at whatever error is passed on
-pub run-fails : (shown : Shown) (limit : ℕ) (old new : VipState) (out out' : SinkMeaning) (r : Result Tally Failed) → IsErr r
+pub run-fails : (shown : Told) (limit : ℕ) (old new : VipState) (out out' : SinkMeaning) (r : Result Tally Failed) → IsErr r
     → FailsWithin (pieces_of shown old limit (events_left old limit)) out out' → RunAnswers shown limit old new out out' r
 run-fails shown limit old new out out' (Ok tally) bad fault = cc
 run-fails shown limit old new out out' (Err e) bad fault = fault
 
 -- ---- the end at a stop
 
-module _ (shown : Shown) (limit : ℕ) (start : VipState) (out : SinkMeaning) (v v' : VipState) (out' : SinkMeaning) (dispatches pictures : ℕ) (g : EventsShown shown limit start v out out' dispatches pictures) where
+module _ (shown : Told) (limit : ℕ) (start : VipState) (out : SinkMeaning) (v v' : VipState) (out' : SinkMeaning) (dispatches pictures : ℕ) (g : EventsShown shown limit start v out out' dispatches pictures) where
   pub ran-stop : (stop : StopRecord) (h : Halted limit v v' (events_left v limit) stop) (tally : Tally) → tally.end ≡ run.AtStop stop
       → tally.dispatches ≡ dispatches → tally.pictures ≡ pictures → Ran shown limit start v' out out' tally
   ran-stop stop h tally end ds ps = record {
@@ -370,8 +370,8 @@ module _ (shown : Shown) (limit : ℕ) (start : VipState) (out : SinkMeaning) (v
       all_behind =
           g.split_behind ∙ ap (λ left. g.behind ++ left) h.split ∙ ap (λ rest. g.behind ++ Stopped h.b ∷ rest) none_behind
 
-      none : (s : Shown) → flat_map (piece_of s start.edition (interpreter start).rom (run_of start limit)) (Stopped h.b ∷ []) ≡ []
-      none (Lines columns) = refl
+      none : (s : Told) → flat_map (piece_of s start.edition (interpreter start).rom (run_of start limit)) (Stopped h.b ∷ []) ≡ []
+      none (Lines origins columns) = refl
       none Pictures = refl
       none Nothing = refl
 
@@ -384,7 +384,7 @@ pub piece-put : {X : Type 0} (f : X → List ℕ) (found : Option X) (x : X) (by
 piece-put f found x bytes old new r is same put = rw is (subst (λ b. PutAnswers b old new r) same put)
 
 -- the counts and the events met are few
-pub counts-fit : (shown : Shown) (limit : ℕ) (start v v' : VipState) (out out' : SinkMeaning) (dispatches pictures : ℕ)
+pub counts-fit : (shown : Told) (limit : ℕ) (start v v' : VipState) (out out' : SinkMeaning) (dispatches pictures : ℕ)
     → EventsShown shown limit start v out out' dispatches pictures → Follows v' → v'.met ≡ v.met + 1
     → (dispatches ≤ 8_000_000_001) × (pictures ≤ 8_000_000_001)
 counts-fit shown limit start v v' out out' dispatches pictures g follows one =
@@ -405,10 +405,10 @@ pub pictures-are : (v : VipState) (limit : ℕ) → pieces_of Pictures v limit (
 unfolding picture_pieces
 pictures-are v limit = refl
 
-pub lines-are : (columns : TraceColumns) (v : VipState) (limit : ℕ)
-    → pieces_of (Lines columns) v limit (events_left v limit) ≡ trace_lines v.edition columns (events_left v limit)
+pub lines-are : (origins : Origins) (columns : TraceColumns) (v : VipState) (limit : ℕ)
+    → pieces_of (Lines origins columns) v limit (events_left v limit) ≡ trace_lines origins v.edition columns (events_left v limit)
 unfolding trace_lines
-lines-are columns v limit = refl
+lines-are origins columns v limit = refl
 
 -- the screen that is told of is that of the last dispatch point
 screen_of : (e : Edition) (events : List Event) (last : Option Machine) (v : VipState) → v.edition ≡ e → v.last ≡ option_map (view_at e) last
@@ -421,9 +421,9 @@ lit_of : (e : Edition) (last : Option Machine) (v : VipState) → v.edition ≡ 
 lit_of e None v edition told shown = rw told refl
 lit_of e (Some b) v edition told shown = rw (told, edition, shown) (unfold state_of in refl)
 
-module _ (columns : TraceColumns) (limit : ℕ) (old new : VipState) (out out' out'' : SinkMeaning) (tally : Tally) (ran : Ran (Lines columns) limit old new out out' tally) where
-  lines_out : PutsAll (trace_lines old.edition columns (events_left old limit)) out out'
-  lines_out = subst (λ pieces. PutsAll pieces out out') (lines-are columns old limit) ran.puts
+module _ (origins : Origins) (columns : TraceColumns) (limit : ℕ) (old new : VipState) (out out' out'' : SinkMeaning) (tally : Tally) (ran : Ran (Lines origins columns) limit old new out out' tally) where
+  lines_out : PutsAll (trace_lines origins old.edition columns (events_left old limit)) out out'
+  lines_out = subst (λ pieces. PutsAll pieces out out') (lines-are origins columns old limit) ran.puts
 
   screen : option_to_list (screen_told new) ≡ screen_piece old.edition (last_dispatch (events_to old limit))
   screen = screen_of old.edition (events_to old limit) (last_dispatch (events_to old limit)) new ran.edition ran.last ran.screen
@@ -431,40 +431,40 @@ module _ (columns : TraceColumns) (limit : ℕ) (old new : VipState) (out out' o
   -- the lines, and the screen behind them where it is asked for
   abbrev lines_and : Bool → List (List ℕ)
   lines_and asked =
-      trace_lines old.edition columns (events_left old limit)
+      trace_lines origins old.edition columns (events_left old limit)
       ++ (if asked then screen_piece old.edition (last_dispatch (events_to old limit)) else [])
 
   pub traced-whole : columns.screen ≡ true → (done : Unit {0}) → PieceAnswers (screen_told new) out' out'' (Ok done)
-      → ShowsRun old limit (run_trace columns old limit) out out'' tally.end
+      → ShowsRun old limit (run_trace origins columns old limit) out out'' tally.end
   traced-whole asked done put = record {
     puts =
         subst (λ asked. PutsAll (lines_and asked) out out'') (sym asked)
-        (PutsAll-append (trace_lines old.edition columns (events_left old limit))
+        (PutsAll-append (trace_lines origins old.edition columns (events_left old limit))
         (screen_piece old.edition (last_dispatch (events_to old limit))) out out' out'' lines_out
         (rw (← screen) (puts-piece (screen_told new) out' out'' done put)));
     ending = ran.ending;
   }
 
-  pub traced-lines : columns.screen ≡ false → ShowsRun old limit (run_trace columns old limit) out out' tally.end
+  pub traced-lines : columns.screen ≡ false → ShowsRun old limit (run_trace origins columns old limit) out out' tally.end
   traced-lines unasked = record { puts = subst (λ asked. PutsAll (lines_and asked) out out') (sym unasked) (rw append-nil lines_out); ending = ran.ending }
 
   fails_at : columns.screen ≡ true → (piece : Option (List ℕ)) (e : Failed) → option_to_list piece ≡ screen_piece old.edition (last_dispatch (events_to old limit))
-      → PieceAnswers piece out' out'' (Err e) → FailsWithin (run_trace columns old limit) out out''
+      → PieceAnswers piece out' out'' (Err e) → FailsWithin (run_trace origins columns old limit) out out''
   fails_at asked None e is fault = let bad = fault.0 in cc
   fails_at asked (Some piece) e is fault =
       subst (λ asked. FailsWithin (lines_and asked) out out'') (sym asked)
-      (rw (← is) (FailsWithin-snoc (trace_lines old.edition columns (events_left old limit)) piece [] out out' out'' lines_out fault))
+      (rw (← is) (FailsWithin-snoc (trace_lines origins old.edition columns (events_left old limit)) piece [] out out' out'' lines_out fault))
 
-  pub traced-fails : columns.screen ≡ true → (e : Failed) → PieceAnswers (screen_told new) out' out'' (Err e) → FailsWithin (run_trace columns old limit) out out''
+  pub traced-fails : columns.screen ≡ true → (e : Failed) → PieceAnswers (screen_told new) out' out'' (Err e) → FailsWithin (run_trace origins columns old limit) out out''
   traced-fails asked e fault = fails_at asked (screen_told new) e screen fault
 
 -- a fault among the lines
-pub traced-early : (columns : TraceColumns) (v : VipState) (limit : ℕ) (out out' : SinkMeaning)
-    → FailsWithin (pieces_of (Lines columns) v limit (events_left v limit)) out out' → FailsWithin (run_trace columns v limit) out out'
-traced-early columns v limit out out' fault =
-    FailsWithin-more (trace_lines v.edition columns (events_left v limit))
+pub traced-early : (origins : Origins) (columns : TraceColumns) (v : VipState) (limit : ℕ) (out out' : SinkMeaning)
+    → FailsWithin (pieces_of (Lines origins columns) v limit (events_left v limit)) out out' → FailsWithin (run_trace origins columns v limit) out out'
+traced-early origins columns v limit out out' fault =
+    FailsWithin-more (trace_lines origins v.edition columns (events_left v limit))
     (if columns.screen then screen_piece v.edition (last_dispatch (events_to v limit)) else []) out out'
-    (subst (λ pieces. FailsWithin pieces out out') (lines-are columns v limit) fault)
+    (subst (λ pieces. FailsWithin pieces out out') (lines-are origins columns v limit) fault)
 
 -- ---- the line of summary
 

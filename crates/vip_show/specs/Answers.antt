@@ -1,5 +1,6 @@
 -- What the calls answer of a run that begins.
 use Rattle.std.specs.Prelude.{◌≡◌, ℕ, if◌then◌else◌, List, [], ◌∷◌, ◌++◌, length, Result, Ok, Err}
+use Rattle.asm_core.specs.Origins.{Origins}
 use Rattle.vip_outside.specs.Sink.{SinkMeaning}
 use Rattle.vip_outside.specs.Pieces.{PutsAll, FailsWithin}
 use Rattle.vip_outside.specs.declared.sink.Failed.{Failed}
@@ -33,9 +34,9 @@ ShowAnswers v limit pieces old new (Ok end) = ShowsRun v limit pieces old new en
 ShowAnswers v limit pieces old new (Err e) = FailsWithin pieces old new
 
 -- What is written of a run that begins: of its events behind the start. The last dispatch point is the start's where there is no other.
-abbrev pub run_trace : TraceColumns → VipState → ℕ → List (List ℕ)
-run_trace columns v limit =
-    trace_lines v.edition columns (events_left v limit)
+abbrev pub run_trace : Origins → TraceColumns → VipState → ℕ → List (List ℕ)
+run_trace origins columns v limit =
+    trace_lines origins v.edition columns (events_left v limit)
     ++ (if columns.screen then screen_piece v.edition (last_dispatch (events_to v limit)) else [])
 
 abbrev pub run_pictures : VipState → ℕ → List (List ℕ)

@@ -10,18 +10,19 @@ use Rattle.chip8_lang.specs.Events.Event.{Picture, Dispatch}
 use Rattle.chip8_lang.specs.Places.{state_of}
 use Rattle.chip8_lang.specs.Screen.{Pixels}
 use Rattle.chip8_lang.specs.View.{view_at}
+use Rattle.asm_core.specs.Origins.{Origins}
 use Rattle.vip_text.specs.Screens.{screen_lines, picture_file}
-use Rattle.vip_text.specs.Traces.{trace_line}
+use Rattle.vip_text.specs.Traces.{told_line}
 use Rattle.vip_text.specs.declared.trace.TraceColumns.{TraceColumns}
 
--- ---- a trace: a line for the state read off at each dispatch point
+-- ---- a trace: a line for the state read off at each dispatch point, with the source's line that gave its opcode, where that is told
 
-abbrev pub trace_piece : Edition → TraceColumns → Event → List (List ℕ)
-trace_piece e columns (Dispatch b) = trace_line columns (view_at e b) ∷ []
-trace_piece e columns _ = []
+abbrev pub trace_piece : Origins → Edition → TraceColumns → Event → List (List ℕ)
+trace_piece origins e columns (Dispatch b) = told_line origins columns (view_at e b) ∷ []
+trace_piece origins e columns _ = []
 
-unfoldable pub trace_lines : Edition → TraceColumns → List Event → List (List ℕ)
-trace_lines e columns = flat_map (trace_piece e columns)
+unfoldable pub trace_lines : Origins → Edition → TraceColumns → List Event → List (List ℕ)
+trace_lines origins e columns = flat_map (trace_piece origins e columns)
 
 -- the screen at the last dispatch point, and nothing where there is none
 abbrev pub screen_at : Edition → Machine → List ℕ

@@ -10,6 +10,7 @@ ghost use Rattle.vip_show.specs.Answers.{IsFresh, ShowAnswers, run_trace, run_pi
 ghost use Rattle.vip_show.specs.Run.{PieceAnswers, screen_told};
 
 use crate::run::{Shown, put_events};
+use asm_core::Origins;
 use vip_byte::Buffer;
 use vip_outside::{Failed, Sink};
 use vip_relation::Run;
@@ -29,18 +30,19 @@ fn put_screen<O: Sink>(run: &Run, screen: &[u8], out: &mut O) -> Result<(), Fail
     out.put(text.as_slice())
 }
 
-/// Runs a machine that begins, and puts the line of each dispatch point, with these columns, and at the end the screen where they ask for it, each as one
-/// piece. A put that fails ends it.
+/// Runs a machine that begins, and puts the line of each dispatch point, with these columns and the source's line that gave it, where it is told, and at the
+/// end the screen where they ask for it, each as one piece. A put that fails ends it.
 pub fn show_trace<O: Sink>(
     run: &mut Run,
     limit: Limit,
     columns: TraceColumns,
+    origins: &Origins,
     out: &mut O,
 ) -> Result<RunEnd, Failed>
     requires fresh { IsFresh run.old }
-    ensures { ShowAnswers run.old limit (run_trace columns run.old limit) (O.meaning out.old) (O.meaning out.new) result }
+    ensures { ShowAnswers run.old limit (run_trace origins.now columns run.old limit) (O.meaning out.old) (O.meaning out.new) result }
 {
-    let tally = put_events(run, limit, Shown::Lines(columns), columns.screen, out)?;
+    let tally = put_events(run, limit, Shown::Lines(columns, origins), columns.screen, out)?;
     if columns.screen {
         put_screen(run, tally.screen.as_slice(), out)?;
     }

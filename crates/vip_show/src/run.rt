@@ -6,20 +6,21 @@ ghost use Rattle.chip8_lang.specs.View.{view_at};
 ghost use Rattle.vip_outside.specs.Sink.{PutAnswers};
 ghost use Rattle.vip_relation.specs.State.{screen_bytes, screen_size};
 ghost use Rattle.vip_text.specs.Screens.{picture_file};
-ghost use Rattle.vip_text.specs.Traces.{trace_line};
+ghost use Rattle.vip_text.specs.Traces.{told_line};
 ghost use Rattle.vip_show.specs.Answers.{IsFresh};
-ghost use Rattle.vip_show.specs.Run.{PieceAnswers, event_piece, RunAnswers};
+ghost use Rattle.vip_show.specs.Run.{PieceAnswers, event_piece, told_of, RunAnswers};
 
+use asm_core::Origins;
 use vip_byte::Buffer;
 use vip_outside::{Failed, Sink};
 use vip_relation::{Met, Run, Screen, dark};
-use vip_text::{Limit, RunEnd, TraceColumns, picture_text, trace_text};
+use vip_text::{Limit, RunEnd, TraceColumns, picture_text, told_text};
 
 /// What is written of each event.
 #[derive(Clone, Copy)]
-pub enum Shown {
-    /// A line for each dispatch point, with these columns.
-    Lines(TraceColumns),
+pub enum Shown<'a> {
+    /// A line for each dispatch point, with these columns, and the source's line that gave the opcode, where it is told.
+    Lines(TraceColumns, &'a Origins),
     /// A file for each picture.
     Pictures,
     Nothing,
@@ -38,13 +39,14 @@ pub struct Tally {
 fn put_line<O: Sink>(
     run: &Run,
     columns: TraceColumns,
+    origins: &Origins,
     text: &mut Buffer,
     out: &mut O,
 ) -> Result<(), Failed>
-    ensures { PutAnswers (trace_line columns (view_at run.now.edition run.now.board.machine)) (O.meaning out.old) (O.meaning out.new) result }
+    ensures { PutAnswers (told_line origins.now columns (view_at run.now.edition run.now.board.machine)) (O.meaning out.old) (O.meaning out.new) result }
 {
     text.clear();
-    trace_text(&run.view(), columns, text);
+    told_text(&run.view(), columns, origins, text);
     out.put(text.as_slice())
 }
 
@@ -68,10 +70,10 @@ fn put_event<O: Sink>(
     text: &mut Buffer,
     out: &mut O,
 ) -> Result<(), Failed>
-    ensures { PieceAnswers (event_piece shown met.now run.now) (O.meaning out.old) (O.meaning out.new) result }
+    ensures { PieceAnswers (event_piece (told_of shown.entry) met.now run.now) (O.meaning out.old) (O.meaning out.new) result }
 {
     match (shown, met) {
-        (Shown::Lines(columns), Met::Dispatch) => put_line(run, columns, text, out),
+        (Shown::Lines(columns, origins), Met::Dispatch) => put_line(run, columns, origins, text, out),
         (Shown::Pictures, Met::Picture) => put_picture(run, text, out),
         _ => Ok(()),
     }
@@ -110,7 +112,7 @@ pub fn put_events<O: Sink>(
     out: &mut O,
 ) -> Result<Tally, Failed>
     requires fresh { IsFresh run.old }
-    ensures answer { RunAnswers shown limit run.old run.new (O.meaning out.old) (O.meaning out.new) result }
+    ensures answer { RunAnswers (told_of shown.entry) limit run.old run.new (O.meaning out.old) (O.meaning out.new) result }
     ensures screen { IsTrue keeps_screen → IfOk result (λ tally. tally.screen.items ≡ run.new.shown) }
     ensures size { IfOk result (λ tally. length tally.screen.items ≡ screen_size run.new.edition) }
 {

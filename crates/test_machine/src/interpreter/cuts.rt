@@ -4,6 +4,7 @@
 use crate::interpreter::edition::EDITIONS;
 use crate::interpreter::numbers::Numbers;
 use crate::keys::script_of;
+use asm_core::Origins;
 use chip8_lang::Edition;
 use std::alloc::{AllocError, Global};
 use vip_keypad::Script;
@@ -86,7 +87,7 @@ impl Numbers {
 /// Writes the trace of the run up to a limit.
 fn trace(alloc: Global, cut: &Cut<'_>, limit: Limit, out: &mut MemSink) -> anyhow::Result<RunEnd> {
     let mut run = Run::start_as(alloc, cut.edition, cut.game, cut.script)?;
-    Ok(show_trace(&mut run, limit, TIMED, out)?)
+    Ok(show_trace(&mut run, limit, TIMED, &Origins::none(alloc), out)?)
 }
 
 /// Writes the file of the run at its last dispatch point up to the first limit.
@@ -98,7 +99,7 @@ fn save(alloc: Global, cut: &Cut<'_>, out: &mut MemSink) -> anyhow::Result<Optio
 /// Writes the records of what goes on from a file up to the last limit.
 fn resume(alloc: Global, cut: &Cut<'_>, file: &[u8], out: &mut MemSink) -> anyhow::Result<RunEnd> {
     let mut run = Run::resume(alloc, file, cut.script)?;
-    Ok(show_trace(&mut run, cut.last, TIMED, out)?)
+    Ok(show_trace(&mut run, cut.last, TIMED, &Origins::none(alloc), out)?)
 }
 
 impl Written {

@@ -3,7 +3,7 @@ use Rattle.vip_relation.specs.State.{screen_size}
 use Rattle.vip_relation.proofs.Nexts.{at_dispatch, at_picture, at_stop, at_end, fewer-dispatch, fewer-picture}
 use Rattle.vip_text.specs.declared.ending.RunEnd.TheVariants.{AtLimit, AtStop}
 use Rattle.vip_show.specs.declared.run.Tally.{Tally}
-use Rattle.vip_show.proofs.Digesting.{digested, digesting-first, digesting-dispatch, digesting-picture, holding}
+use Rattle.vip_show.proofs.Digesting.{adds-line, digested, digesting-first, digesting-dispatch, digesting-picture, holding}
 use Rattle.vip_show.proofs.EventsShown.{ran-stop, ran-end, counts-fit, screen-here}
 use Rattle.vip_show.proofs.digests.digest_run.Goals as goal
 
@@ -37,7 +37,7 @@ loop-points-preserved-in-Dispatch c =
     let d = at_dispatch _ _ _ _ (c.in-Dispatch.ensures.next c.loop-points.invariant.runs) in
     record {
       runs = d.meets.goes_on;
-      events = digesting-dispatch _ _ _ _ _ _ _ c.loop-points.invariant.events d _ c.add_line.ensures;
+      events = digesting-dispatch _ _ _ _ _ _ _ c.loop-points.invariant.events d _ (adds-line _ _ _ c.add_line.ensures);
       screen = screen-here _ _ _ _ d _ (c.keep_screen.ensures.screen refl);
       size = c.keep_screen.ensures.size;
     }

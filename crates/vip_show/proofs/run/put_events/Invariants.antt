@@ -1,6 +1,7 @@
 use Rattle.std.proofs.Common.{◌≡◌, true, length}
 use Rattle.vip_relation.specs.Meets.{HasStopped}
 use Rattle.vip_relation.specs.State.{events_left, screen_size}
+use Rattle.vip_show.specs.Run.{told_of}
 use Rattle.vip_show.proofs.EventsShown.{EventsShown}
 use Rattle.vip_show.proofs.run.put_events.Given as goal
 
@@ -8,7 +9,7 @@ use Rattle.vip_show.proofs.run.put_events.Given as goal
 abbrev pub invariant-loop-dispatches : goal.invariant-loop-dispatches
 invariant-loop-dispatches g l = record {
   runs : HasStopped l.run → ⊥;
-  events : EventsShown l.shown l.limit l.fn.run l.run (g.O.Sink.meaning l.fn.out) (g.O.Sink.meaning l.out) l.dispatches l.pictures;
+  events : EventsShown (told_of l.shown) l.limit l.fn.run l.run (g.O.Sink.meaning l.fn.out) (g.O.Sink.meaning l.out) l.dispatches l.pictures;
   screen : l.keeps_screen ≡ true → l.screen.items ≡ l.run.shown;
   size : length l.screen.items ≡ screen_size l.run.edition;
 }
