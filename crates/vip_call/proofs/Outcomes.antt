@@ -62,6 +62,7 @@ use Rattle.vip_words.specs.declared.request.Start.TheVariants as beginning
 use Rattle.vip_words.specs.declared.request.TextVerb.{TextVerb}
 use Rattle.vip_words.specs.declared.request.TextVerb.TheVariants as text
 use Rattle.vip_tools.specs.Certificates.{EntryComes, ProofComes, ProofFound, RoutineComes, RoutineFound, SafeComes, CertifyComes, CyclesComes, SourceRom, TimingComes, cert_refusal, certify_shown, count_line, exits_asked, find_refusal, proof_refusal, rom_in, routine_text, timing_refusal, timing_shown}
+use Rattle.asm_core.specs.Origins.{no_origins}
 use Rattle.vip_tools.specs.Code.{FitComes, GameComes, ImageComes, IsFitGame, IsLarge, Known, LaidComes, known_of}
 use Rattle.vip_tools.specs.Files.{Loaded, needed, script_files, show_files}
 use Rattle.vip_tools.specs.Judged.{Judged, bind, cause_of, each, judged, only}
@@ -452,7 +453,7 @@ module _ (given : RomsGiven) where
     show_free known e s keys limit (show.Commands text echo columns) saves =
         free_behind (CommandsCome Chip8 known.names echo limit text) _ (part _ _ command_refusal (λ f x. command_fine f)) (λ commands. run_free e keys _ (λ script. run_ends _))
     show_free known e s keys limit (show.Plain plain.State) saves =
-        run_free e keys _ (λ script. state_sound (saves refl) limit (run_ending e s script limit) (pieces_of plain.State e s script limit))
+        run_free e keys _ (λ script. state_sound (saves refl) limit (run_ending e s script limit) (pieces_of known.origins plain.State e s script limit))
     show_free known e s keys limit (show.Plain (plain.Trace columns)) saves = run_free e keys _ (λ script. run_ends (run_ending e s script limit))
     show_free known e s keys limit (show.Plain plain.Pictures) saves = run_free e keys _ (λ script. run_ends (run_ending e s script limit))
     show_free known e s keys limit (show.Plain plain.Profile) saves = run_free e keys _ (λ script. run_ends (run_ending e s script limit))
@@ -543,11 +544,11 @@ module _ (given : RomsGiven) where
       no_file limit ending (Some file) is = absurd (cc)
 
       of_run : (e : Edition) (s : Start) → Fits e s → (keys : Option (List ℕ)) (limit : ℕ)
-          → RunTo e keys (λ script. shown_by plain.State e s script limit) (Refused NoDispatch report) → LacksPoint limit s
+          → RunTo e keys (λ script. shown_by no_origins plain.State e s script limit) (Refused NoDispatch report) → LacksPoint limit s
       of_run e s fits keys limit (inl x) = absurd ((script_free other keys (Refused NoDispatch report) x).1 refl)
       of_run e s fits keys limit (inr x) = behind_rom x.here
         where
-          behind_rom : bind (RomComes e) (λ _. Ends (shown_by plain.State e s x.value limit)) (Refused NoDispatch report) → LacksPoint limit s
+          behind_rom : bind (RomComes e) (λ _. Ends (shown_by no_origins plain.State e s x.value limit)) (Refused NoDispatch report) → LacksPoint limit s
           behind_rom (inl y) = absurd (rom_never e y.fault y.is NoDispatch report y.tells)
           behind_rom (inr y) = lacks e s fits x.value limit (no_file limit (run_ending e s x.value limit) (saved_file e (events_in e s x.value limit)) y.here)
 

@@ -22,7 +22,8 @@ use Rattle.vip_show.specs.Written.{file_of}
 use Rattle.vip_show.proofs.OneAnswer.{one_edition}
 use Rattle.vip_text.specs.Endings.Ending.{AtLimit}
 use Rattle.vip_text.specs.StateFile.{shown, IsAccepted}
-use Rattle.vip_text.specs.Traces.{trace_line}
+use Rattle.asm_core.specs.Origins.{no_origins}
+use Rattle.vip_text.specs.Traces.{record_text}
 use Rattle.vip_text.specs.declared.trace.TraceColumns.{TraceColumns}
 use Rattle.vip_debug.specs.Answers.{moves_until, pieces, place_after, at_start, written}
 use Rattle.vip_debug.specs.declared.looks.Looks.{Looks}
@@ -67,13 +68,13 @@ saves_shown law e s fits script limit few file saved = let x = law e s fits scri
 -- ---- lists
 
 lines_joined : (e : Edition) (columns : TraceColumns) (xs ys : List Event)
-    → trace_lines e columns (xs ++ ys) ≡ trace_lines e columns xs ++ trace_lines e columns ys
+    → trace_lines no_origins e columns (xs ++ ys) ≡ trace_lines no_origins e columns xs ++ trace_lines no_origins e columns ys
 unfolding trace_lines
-lines_joined e columns xs ys = flat_map-append (trace_piece e columns) xs ys
+lines_joined e columns xs ys = flat_map-append (trace_piece no_origins e columns) xs ys
 
 -- the lines are the same without the screen behind them
-lines_alike : (e : Edition) (columns : TraceColumns) (es : List Event) → trace_lines e (record columns { screen = false }) es ≡ trace_lines e columns es
-unfolding trace_lines trace_line
+lines_alike : (e : Edition) (columns : TraceColumns) (es : List Event) → trace_lines no_origins e (record columns { screen = false }) es ≡ trace_lines no_origins e columns es
+unfolding trace_lines record_text
 lines_alike e columns es = refl
 
 last_after_both : (last : Option Machine) (xs ys : List Event) → last_after last (xs ++ ys) ≡ last_after (last_after last xs) ys
@@ -158,24 +159,24 @@ module _ (joins : SavedJoins) (commands_behind : GoesOnBehind) where
         lines :
             (columns : TraceColumns)
             → ran later
-            (trace_lines e columns (events_shown e s other later)
+            (trace_lines no_origins e columns (events_shown e s other later)
             ++ (if columns.screen then screen_piece e (last_dispatch (events_in e s other later)) else []))
             (run_ending e s other later)
             ≡ ran later
-            ((trace_lines e (record columns { screen = false }) (events_shown e s other t) ++ [])
-            ++ (trace_lines e columns (events_shown e (Saved file) other later)
+            ((trace_lines no_origins e (record columns { screen = false }) (events_shown e s other t) ++ [])
+            ++ (trace_lines no_origins e columns (events_shown e (Saved file) other later)
             ++ (if columns.screen then screen_piece e (last_dispatch (events_in e (Saved file) other later)) else [])))
             (run_ending e (Saved file) other later)
         lines columns =
             let own : List Event = events_behind (interpreter_of e) other (shown file) later in
             ap₂ (ran later)
             (ap₂ (λ ls last. ls ++ (if columns.screen then screen_piece e last else []))
-            (ap (trace_lines e columns) (shown_joined e s other t later own j.events)
+            (ap (trace_lines no_origins e columns) (shown_joined e s other t later own j.events)
             ∙ lines_joined e columns (events_shown e s other t) own
-            ∙ ap (λ ls. ls ++ trace_lines e columns own)
-            (sym (append-nil (trace_lines e (record columns { screen = false }) (events_shown e s other t)) ∙ lines_alike e columns (events_shown e s other t))))
+            ∙ ap (λ ls. ls ++ trace_lines no_origins e columns own)
+            (sym (append-nil (trace_lines no_origins e (record columns { screen = false }) (events_shown e s other t)) ∙ lines_alike e columns (events_shown e s other t))))
             same_last
-            ∙ append_assoc (trace_lines e (record columns { screen = false }) (events_shown e s other t) ++ []) (trace_lines e columns own)
+            ∙ append_assoc (trace_lines no_origins e (record columns { screen = false }) (events_shown e s other t) ++ []) (trace_lines no_origins e columns own)
             (if columns.screen then screen_piece e (last_dispatch (events_in e (Saved file) other later)) else []))
             j.ending
 

@@ -252,8 +252,8 @@ module _ (every : EveryRun) (from : FromAccepted) (time : EveryTime) (time_from 
   transcribed_as known e s fits keys limit few (show.Plain (plain.Trace columns)) output comes =
       transcribed_run known e s fits keys limit (show.Plain (plain.Trace columns)) output _ _
       (λ script. (
-        traced_is e columns (events_shown e s script limit) (events_in e s script limit)
-            ∙ ap (λ ps. trace_text e columns (points_shown e s script limit) (last_point ps)) (all_are e s script limit),
+        traced_is e known.origins columns (events_shown e s script limit) (events_in e s script limit)
+            ∙ ap (λ ps. trace_text e known.origins columns (points_shown e s script limit) (last_point ps)) (all_are e s script limit),
         refl,
       ))
       comes

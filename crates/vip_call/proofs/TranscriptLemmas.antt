@@ -20,11 +20,12 @@ use Rattle.vip_text.specs.Endings.{Ending}
 use Rattle.vip_text.specs.StateFile.{bank_in, shown}
 use Rattle.vip_text.specs.Summaries.{summary_line}
 use Rattle.vip_text.specs.declared.trace.TraceColumns.{TraceColumns}
+use Rattle.asm_core.specs.Origins.{Origins}
 use Rattle.vip_show.specs.Output.{trace_lines, screen_piece, picture_pieces, lit_at, is_dispatch_event, is_picture_event, count_of}
 use Rattle.vip_show.specs.Profile.{profile_pieces, profile_text, views_of}
 use Rattle.vip_call.specs.Language.{named}
 use Rattle.vip_call.specs.Transcribed.{file_point}
-use Rattle.vip_call.specs.Transcript.{Point, Begins, GoesOn, Ends, last_point, last_screen, line, lit, profile_of, summary_text, trace_text}
+use Rattle.vip_call.specs.Transcript.{Point, Begins, GoesOn, Ends, last_point, last_screen, lit, profile_of, summary_text, trace_text, traced}
 
 -- ---- the points among some events
 
@@ -112,12 +113,12 @@ module _ (e : Edition) (script : List KeyEvent) (limit : ℕ) (run : List Machin
 -- ---- the lines
 
 module _ (e : Edition) where
-  pub lines_are : (columns : TraceColumns) (events : List Event) → trace_lines e columns events ≡ map (line e columns) (points_of e events)
+  pub lines_are : (origins : Origins) (columns : TraceColumns) (events : List Event) → trace_lines origins e columns events ≡ map (traced e origins columns) (points_of e events)
   unfolding trace_lines view_at
-  lines_are columns [] = refl
-  lines_are columns (Picture m ∷ events) = lines_are columns events
-  lines_are columns (Dispatch b ∷ events) = ap (λ l. line e columns (point_of e b) ∷ l) (lines_are columns events)
-  lines_are columns (Stopped b ∷ events) = lines_are columns events
+  lines_are origins columns [] = refl
+  lines_are origins columns (Picture m ∷ events) = lines_are origins columns events
+  lines_are origins columns (Dispatch b ∷ events) = ap (λ l. traced e origins columns (point_of e b) ∷ l) (lines_are origins columns events)
+  lines_are origins columns (Stopped b ∷ events) = lines_are origins columns events
 
   -- the last of them
   last_of :
@@ -142,12 +143,12 @@ module _ (e : Edition) where
 
   -- the lines of some events, and the screen at the last dispatch point of all
   pub traced_is :
-      (columns : TraceColumns) (shown all : List Event)
-      → trace_lines e columns shown ++ (if columns.screen then screen_piece e (last_dispatch all) else [])
-      ≡ trace_text e columns (points_of e shown) (last_point (points_of e all))
-  traced_is columns shown all =
+      (origins : Origins) (columns : TraceColumns) (shown all : List Event)
+      → trace_lines origins e columns shown ++ (if columns.screen then screen_piece e (last_dispatch all) else [])
+      ≡ trace_text e origins columns (points_of e shown) (last_point (points_of e all))
+  traced_is origins columns shown all =
       ap₂ (λ lines last. lines ++ (if columns.screen then last else []))
-      (lines_are columns shown)
+      (lines_are origins columns shown)
       (screen_is (last_dispatch all) ∙ ap (last_screen e) (sym (last_is_last all)))
 
   -- ---- the profile

@@ -107,7 +107,7 @@ module _ (e : Edition) (s : Start) (points : List Point) where
   -- written, and this end is reported.
   abbrev pub IsShown : Known → ℕ → List Shown → Ending → ℕ → Ending → Show (List ℕ) → List (List ℕ) → Type 0
   IsShown known limit run ending over reported (Plain (Trace columns)) pieces =
-      (pieces ≡ trace_text e columns points (last_point all_points)) × (reported ≡ ending)
+      (pieces ≡ trace_text e known.origins columns points (last_point all_points)) × (reported ≡ ending)
   IsShown known limit run ending over reported (Plain Pictures) pieces = ShowsPictures e run pieces × (reported ≡ ending)
   IsShown known limit run ending over reported (Commands text echo columns) pieces =
       Debugged (looks_of known columns) limit ending over reported (commands_of Chip8 known.names echo limit text) pieces

@@ -20,7 +20,8 @@ use Rattle.vip_text.specs.Endings.Ending.{AtLimit, AtStop}
 use Rattle.vip_text.specs.Screens.{picture_file, screen_lines}
 use Rattle.vip_text.specs.Stops.{stop_line}
 use Rattle.vip_text.specs.Summaries.{summary_line}
-use Rattle.vip_text.specs.Traces.{trace_line}
+use Rattle.asm_core.specs.Origins.{Origins}
+use Rattle.vip_text.specs.Traces.{told_line, trace_line}
 use Rattle.vip_text.specs.declared.trace.TraceColumns.{TraceColumns}
 use Rattle.vip_show.specs.Output.{lit_in_rows}
 use Rattle.vip_show.specs.Profile.{profile_text}
@@ -89,6 +90,10 @@ module _ (e : Edition) where
   abbrev pub line : TraceColumns → Point → List ℕ
   line columns p = trace_line columns (view_of e p.state p.cycle)
 
+  -- with the source's line that gave the opcode, where it is told
+  abbrev pub traced : Origins → TraceColumns → Point → List ℕ
+  traced origins columns p = told_line origins columns (view_of e p.state p.cycle)
+
   abbrev pub screen : Point → List ℕ
   screen p = screen_lines p.state.screen (rows_of e)
 
@@ -107,8 +112,8 @@ module _ (e : Edition) where
   lit (Some p) = lit_in_rows p.state.screen (range_with_len 0 (rows_of e))
 
   -- `trace`: the lines of the points, and then the screen at the last one, if there is one
-  abbrev pub trace_text : TraceColumns → List Point → Option Point → List (List ℕ)
-  trace_text columns points last = map (line columns) points ++ (if columns.screen then last_screen last else [])
+  abbrev pub trace_text : Origins → TraceColumns → List Point → Option Point → List (List ℕ)
+  trace_text origins columns points last = map (traced origins columns) points ++ (if columns.screen then last_screen last else [])
 
   -- `demo`: the counts of points and of n pictures, and the lit pixels at the last point
   abbrev pub summary_text : ℕ → ℕ → List Point → Option Point → List (List ℕ)

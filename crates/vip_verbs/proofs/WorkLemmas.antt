@@ -130,7 +130,7 @@ module _ (e : Edition) (s : Start) (keys : Option (List ℕ)) (known : Known) (l
     comes-as (show.Commands text echo columns) is o come =
         behind (CommandsCome Chip8 known.names echo limit text) (λ commands. RunTo e keys (λ script. debugged (looks_of known columns) commands e s script limit)) is.0 is.2 o
         (rw (is.4, is.3) at come)
-    comes-as (show.Plain (plain.Trace columns)) is o come = rw is at come
+    comes-as (show.Plain (plain.Trace columns)) is o come = rw (is.2, is.1) at come
     comes-as (show.Plain plain.Pictures) is o come = rw is at come
     comes-as (show.Plain plain.State) is o come = rw is at come
     comes-as (show.Plain plain.Profile) is o come = rw is.1 at come

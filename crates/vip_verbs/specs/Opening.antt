@@ -79,19 +79,19 @@ OpenedAnswers start (Ok opened) = IsBeginning start opened.beginning × IsWhole 
 OpenedAnswers start (Err refusal) = RefusedBy (StartComes start) refusal
 
 -- what is shown of a run without the debugger is ready: for a profile there is memory
-abbrev pub IsPlain : PlainShow → ReadyShow → Type 0
-IsPlain (plain.Trace columns) ready = ready ≡ shows.Trace columns
-IsPlain plain.Pictures ready = ready ≡ shows.Pictures
-IsPlain plain.State ready = ready ≡ shows.State
-IsPlain plain.Profile ready = (memory : Profile) × (ready ≡ shows.Profile memory)
-IsPlain (plain.Summary number) ready = ready ≡ shows.Summary number
+abbrev pub IsPlain : Origins → PlainShow → ReadyShow → Type 0
+IsPlain origins (plain.Trace columns) ready = (told : Origins) × (told ≡ origins) × (ready ≡ shows.Trace columns told)
+IsPlain origins plain.Pictures ready = ready ≡ shows.Pictures
+IsPlain origins plain.State ready = ready ≡ shows.State
+IsPlain origins plain.Profile ready = (memory : Profile) × (ready ≡ shows.Profile memory)
+IsPlain origins (plain.Summary number) ready = ready ≡ shows.Summary number
 
 -- what is shown of a run up to a limit is ready: its commands are those that their text says
 abbrev pub IsShow : Known → ℕ → Show (List ℕ) → ReadyShow → Type 0
 IsShow known limit (show.Commands text echo columns) ready =
     (commands : List Spoken) × (looks : Looks) × (commands_of Chip8 known.names echo limit text ≡ Ok commands) × (looks ≡ looks_of known columns)
     × (ready ≡ shows.Commands commands looks)
-IsShow known limit (show.Plain shown) ready = IsPlain shown ready
+IsShow known limit (show.Plain shown) ready = IsPlain known.origins shown ready
 
 -- the commands of what is shown, where it has some
 abbrev pub CommandsIn : Known → ℕ → Show (List ℕ) → Judged (List Spoken)

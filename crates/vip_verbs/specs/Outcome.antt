@@ -38,6 +38,7 @@ use Rattle.vip_relation.specs.State.Start.{Reset, Saved}
 use Rattle.vip_outside.specs.Pieces.{joined}
 use Rattle.vip_show.specs.Digests.{digested_columns}
 use Rattle.vip_show.specs.Endings.{ending_of}
+use Rattle.asm_core.specs.Origins.{Origins, no_origins}
 use Rattle.vip_show.specs.Output.{count_of, is_dispatch_event, is_picture_event, lit_at, picture_pieces, screen_piece, trace_lines}
 use Rattle.vip_show.specs.Profile.{profile_pieces}
 use Rattle.vip_show.specs.Runs.{events_in, run_of}
@@ -126,18 +127,18 @@ saved_pieces = option_map (λ file. file ∷ [])
 abbrev pub ran : ℕ → List (List ℕ) → Ending → Outcome
 ran limit pieces ending = Shown pieces (end_status ending) (end_report limit ending)
 
--- What is written of it: the lines behind its start, and the screen at the last dispatch point, which is the saved one where none came; the pictures; the file
+-- What is written of it, by what a source gave: the lines behind its start, and the screen at the last dispatch point, which is the saved one where none came; the pictures; the file
 -- of the last dispatch point, where there is one; where its time goes; one line that counts.
-abbrev pub pieces_of : PlainShow → Edition → Start → List KeyEvent → ℕ → Option (List (List ℕ))
-pieces_of (plain.Trace columns) e s script limit =
+abbrev pub pieces_of : Origins → PlainShow → Edition → Start → List KeyEvent → ℕ → Option (List (List ℕ))
+pieces_of origins (plain.Trace columns) e s script limit =
     Some (
-    trace_lines e columns (events_shown e s script limit)
+    trace_lines origins e columns (events_shown e s script limit)
     ++ (if columns.screen then screen_piece e (last_dispatch (events_in e s script limit)) else [])
     )
-pieces_of plain.Pictures e s script limit = Some (picture_pieces (interpreter_of e).rom (run_of e s script limit) (events_shown e s script limit))
-pieces_of plain.State e s script limit = saved_pieces (saved_file e (events_in e s script limit))
-pieces_of plain.Profile e s script limit = Some (profile_pieces e (events_in e s script limit))
-pieces_of (plain.Summary number) e s script limit =
+pieces_of origins plain.Pictures e s script limit = Some (picture_pieces (interpreter_of e).rom (run_of e s script limit) (events_shown e s script limit))
+pieces_of origins plain.State e s script limit = saved_pieces (saved_file e (events_in e s script limit))
+pieces_of origins plain.Profile e s script limit = Some (profile_pieces e (events_in e s script limit))
+pieces_of origins (plain.Summary number) e s script limit =
     let shown = events_shown e s script limit in
     Some (
     summary_line number (count_of is_dispatch_event shown) (count_of is_picture_event shown) (lit_at e (last_dispatch (events_in e s script limit)))
@@ -149,8 +150,8 @@ abbrev pub ran_with : ℕ → Ending → Option (List (List ℕ)) → Outcome
 ran_with limit ending None = Refused NoDispatch no_dispatch
 ran_with limit ending (Some pieces) = ran limit pieces ending
 
-abbrev pub shown_by : PlainShow → Edition → Start → List KeyEvent → ℕ → Outcome
-shown_by shown e s script limit = ran_with limit (run_ending e s script limit) (pieces_of shown e s script limit)
+abbrev pub shown_by : Origins → PlainShow → Edition → Start → List KeyEvent → ℕ → Outcome
+shown_by origins shown e s script limit = ran_with limit (run_ending e s script limit) (pieces_of origins shown e s script limit)
 
 -- the answers of the debugger's commands. It ends where they leave the board: with the stop, where that is a stop point, and else as at the limit.
 abbrev pub stopped_by : StopRecord → Ending
@@ -181,7 +182,7 @@ debugged looks commands e s script limit = debugged_to looks limit (limit_from s
 -- A run from a start, of whose code this is known, under a script file up to a limit that is shown so. Under the debugger it comes to the first fault of its
 -- commands, or else, as other runs do, to what their answers come to.
 abbrev pub ShowComes : Known → Edition → Start → Option (List ℕ) → ℕ → Show (List ℕ) → Judged Output
-ShowComes known e s keys limit (show.Plain shown) = RunTo e keys (λ script. shown_by shown e s script limit)
+ShowComes known e s keys limit (show.Plain shown) = RunTo e keys (λ script. shown_by known.origins shown e s script limit)
 ShowComes known e s keys limit (show.Commands text echo columns) =
     bind (CommandsCome Chip8 known.names echo limit text) (λ commands. RunTo e keys (λ script. debugged (looks_of known columns) commands e s script limit))
 
@@ -200,9 +201,9 @@ abbrev pub digest_line : ℕ → Game → List ℕ
 digest_line limit game =
     let e = game.edition in
     let s = Reset game.bytes in
-    text_digest (pieces_of (plain.Trace digested_columns) e s game.keys limit)
+    text_digest (pieces_of no_origins (plain.Trace digested_columns) e s game.keys limit)
     ++ (codes " "
-    ++ (text_digest (pieces_of plain.Pictures e s game.keys limit)
+    ++ (text_digest (pieces_of no_origins plain.Pictures e s game.keys limit)
     ++ (codes " "
     ++ (decimal (count_of is_dispatch_event (events_shown e s game.keys limit)) ++ (codes " " ++ end_report limit (run_ending e s game.keys limit))))))
 

@@ -54,7 +54,7 @@ ended_by limit v = ending_of v.edition (events_to v limit)
 
 -- a run that is shown so up to a limit
 abbrev pub shown_as : ReadyShow → VipState → ℕ → Outcome
-shown_as (show.Trace columns) v limit = ran limit (run_trace columns v limit) (ended_by limit v)
+shown_as (show.Trace columns origins) v limit = ran limit (run_trace origins columns v limit) (ended_by limit v)
 shown_as show.Pictures v limit = ran limit (run_pictures v limit) (ended_by limit v)
 shown_as (show.Commands commands looks) v limit = debugged_to looks limit (limit_from v.start limit) commands v
 shown_as show.State v limit = ran_with limit (ended_by limit v) (saved_pieces (saved_file v.edition (events_to v limit)))

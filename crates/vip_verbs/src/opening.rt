@@ -16,6 +16,7 @@ ghost use Rattle.vip_verbs.specs.Opening.{Accepts, BeginComes, BeginsAt, IsWhole
 ghost use Rattle.vip_verbs.specs.Prepared.{PrepareAnswers};
 
 use crate::prepared::{Prepared, ReadyShow};
+use asm_core::Origins;
 use chip8_lang::Edition;
 use chip8_source::laws::source_gives_rom;
 use std::alloc::{AllocError, Global};
@@ -120,12 +121,16 @@ fn begin<'a>(alloc: Global, beginning: Beginning, keys: Option<Vec<u8>>) -> Resu
     }
 }
 
-/// What is shown of a run without the debugger, with its memory taken.
-fn make_plain(alloc: Global, shown: PlainShow) -> Result<ReadyShow, AllocError>
-    ensures { IfOk result (λ ready. IsPlain shown ready) }
+/// What is shown of a run without the debugger, by what a source gave, with its memory taken.
+fn make_plain(
+    alloc: Global,
+    origins: Origins,
+    shown: PlainShow,
+) -> Result<ReadyShow, AllocError>
+    ensures { IfOk result (λ ready. IsPlain origins shown ready) }
 {
     match shown {
-        PlainShow::Trace(columns) => Ok(ReadyShow::Trace(columns)),
+        PlainShow::Trace(columns) => Ok(ReadyShow::Trace { columns, origins }),
         PlainShow::Pictures => Ok(ReadyShow::Pictures),
         PlainShow::State => Ok(ReadyShow::State),
         PlainShow::Profile => Ok(ReadyShow::Profile(Profile::new(alloc)?)),
@@ -164,7 +169,7 @@ fn make_ready<'a>(
             };
             Ok(ReadyShow::Commands { commands, looks })
         }
-        Show::Plain(shown) => Ok(make_plain(alloc, *shown)?),
+        Show::Plain(shown) => Ok(make_plain(alloc, marks.origins, *shown)?),
     }
 }
 

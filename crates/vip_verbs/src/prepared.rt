@@ -49,8 +49,11 @@ pub enum Prepared {
 /// What is shown of a run of the language, with what it needs.
 #[derive(Drop)]
 pub enum ReadyShow {
-    /// A line for each dispatch point behind the start, and what is asked for besides.
-    Trace(TraceColumns),
+    /// A line for each dispatch point behind the start, with the source's line that gave it, where it is told, and what is asked for besides.
+    Trace {
+        columns: TraceColumns,
+        origins: Origins,
+    },
     /// Each finished picture.
     Pictures,
     /// The answers to these commands of the debugger, which are shown so.

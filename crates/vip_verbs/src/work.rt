@@ -73,7 +73,9 @@ pub(crate) fn perform_run<O: Sink>(
     ensures { PerformAnswers (shown_as show run limit) (O.meaning out.old) (O.meaning out.new) result }
 {
     match show {
-        ReadyShow::Trace(columns) => ran(limit, show_trace(&mut run, limit, columns, out)),
+        ReadyShow::Trace { columns, origins } => {
+            ran(limit, show_trace(&mut run, limit, columns, &origins, out))
+        }
         ReadyShow::Pictures => ran(limit, show_pictures(&mut run, limit, out)),
         ReadyShow::Commands { commands, looks } => debug(run, limit, commands, looks, out),
         ReadyShow::State => end_of_saving(limit, show_saved(&mut run, limit, out)),
