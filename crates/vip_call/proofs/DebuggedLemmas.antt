@@ -19,7 +19,7 @@ use Rattle.chip8_lang.specs.Places.{Interpreter, pixels, state_of}
 use Rattle.chip8_lang.specs.Screen.{empty, is_set}
 use Rattle.chip8_lang.specs.View.{view_at}
 use Rattle.rom_law.specs.Language.{end_cycle}
-use Rattle.asm_core.specs.Origins.{labels_over, no_origins}
+use Rattle.asm_core.specs.Origins.{no_origins}
 use Rattle.vip_byte.specs.Text.{newline}
 use Rattle.vip_relation.specs.Follows.{last_dispatch}
 use Rattle.chip8_image.specs.Interpreters.{interpreter_of}
@@ -34,7 +34,7 @@ use Rattle.rom_board.proofs.Passed.{NoStop, before_point, no_stop_append, no_sto
 use Rattle.vip_text.specs.Endings.{Ending}
 use Rattle.vip_text.specs.Endings.Ending.{AtLimit}
 use Rattle.vip_text.specs.Screens.{screen_lines}
-use Rattle.vip_text.specs.Traces.{plain, trace_line}
+use Rattle.vip_text.specs.Traces.{plain, told_line}
 use Rattle.vip_show.specs.Endings.{ending_after}
 use Rattle.vip_words.specs.Spoken.{Spoken}
 use Rattle.vip_words.specs.declared.debug_commands.Command.{Command}
@@ -56,7 +56,7 @@ use Rattle.vip_debug.proofs.Reaching.{all_past, at_begin, last_until, with_one}
 use Rattle.vip_verbs.specs.Outcome.{debug_ending, ending_where, run_ending, stopped_by}
 use Rattle.vip_call.specs.Commands.{AllAnswered, Answers, NamesStop, ShowsCode, ahead, found_line, last_met, place_at, screen_text, state_text, stops_by}
 use Rattle.vip_call.specs.Commands.{sought as sought_point}
-use Rattle.vip_call.specs.Transcript.{Point, end_line, last_point, line}
+use Rattle.vip_call.specs.Transcript.{Point, end_line, last_point}
 use Rattle.vip_call.proofs.DebugLemmas.{stop_is}
 use Rattle.vip_call.proofs.MetLemmas.{ahead_is, dispatches, is_ahead, met_is, more_moves, next_over, reached_few, within_limit}
 use Rattle.vip_call.proofs.ShownCode.{code_in_memory}
@@ -420,14 +420,14 @@ module _
     code_shown :
         (address count : ℕ) (last : Option Machine) → last_dispatch (events_to v t) ≡ last
         → ShowsCode e looks limit points ending over address count (option_map (point_of e) last) t
-        (code_lines (clear_byte i.rom (at_state made)) (labels_over looks.origins) address count)
+        (code_lines (clear_byte i.rom (at_state made)) looks.origins address count)
     code_shown address count None is = tt
     code_shown address count (Some b) is = λ here from to.
         let among : Among b (dispatches events) =
         kept (λ c. nat_le c.cycle t) (dispatches events) b (length (dispatches (events_to v t)) - 1)
         (sym (ap (λ bs. slice_get bs (length (dispatches (events_to v t)) - 1)) (met_is e s script begins limit t behind_start order)) ∙ is) in
         let there : at_state made ≡ b = ap (λ c. at_state (moves_until v c)) (sym here) ∙ (found b among).there in
-        ap (λ c. code_lines (clear_byte i.rom c) (labels_over looks.origins) address count) there ∙ code_in_memory e i.rom b (labels_over looks.origins) address count from to
+        ap (λ c. code_lines (clear_byte i.rom c) looks.origins address count) there ∙ code_in_memory e i.rom b looks.origins address count from to
 
   -- ---- a command
 
@@ -440,13 +440,13 @@ module _
     answers : Answers e looks limit points ending over c t to (pieces_of looks v limit c (place t))
 
   -- a command that looks for a dispatch point
-  found_here : (b : Machine) → Among b (dispatches events) → seeking_lines looks v (at_point v limit (Some b)) ≡ line e looks.columns (point_of e b) ∷ []
+  found_here : (b : Machine) → Among b (dispatches events) → seeking_lines looks v (at_point v limit (Some b)) ≡ found_line e looks limit points ending over (Some (point_of e b)) ∷ []
   unfolding lines_at view_at
   found_here b a =
       let f = found b a in
-      ap (λ stop. if stop then stop_text (stop_by v (moves_until v b.cycle)) ∷ [] else trace_line looks.columns (view_at e (at_state (moves_until v b.cycle)))
+      ap (λ stop. if stop then stop_text (stop_by v (moves_until v b.cycle)) ∷ [] else told_line looks.origins looks.columns (view_at e (at_state (moves_until v b.cycle)))
       ∷ []) f.runs
-      ∙ ap (λ (c : Machine). trace_line looks.columns (view_at e c) ∷ []) f.there
+      ∙ ap (λ (c : Machine). told_line looks.origins looks.columns (view_at e c) ∷ []) f.there
 
   -- or to the end of the run
   end_here : seeking_lines looks v (at_point v limit None) ≡ end_line ending ∷ []
@@ -632,7 +632,7 @@ module _
           );
         }
       where
-        states : (last : Option Machine) → option_map_or (trace_line (record looks.columns { time = true })) (option_map (view_at e) last) (codes "none" ++ newline)
+        states : (last : Option Machine) → option_map_or (told_line looks.origins (record looks.columns { time = true })) (option_map (view_at e) last) (codes "none" ++ newline)
             ≡ state_text e looks limit points ending over (option_map (point_of e) last)
         states None = refl
         states (Some b) = refl

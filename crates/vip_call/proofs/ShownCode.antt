@@ -1,11 +1,12 @@
 -- Lines of code that lie in game memory are those of the language state there.
 use Rattle.std.proofs.Common.{◌≡◌, ℕ, zero, suc, ◌+◌, ◌-◌, ◌*◌, ◌/◌, ◌<◌, ◌≤◌, List, ◌∷◌, [], ◌++◌, drop, slice_index, refl, sym, ap, ap₂, ◌∙◌, arith}
-use Rattle.std.specs.Prelude.{◌==◌, if◌then◌else◌, min, codes}
+use Rattle.std.specs.Prelude.{◌==◌, if◌then◌else◌, false, min, codes}
 use Rattle.std.specs.List.{flat_map, range_with_len}
 use Rattle.std.proofs.lemmas.Bool.{lt-ltb}
 use Rattle.std.proofs.lemmas.List.{get_or-drop, get_or-take}
 use Rattle.machine.specs.Board.{Machine}
 use Rattle.machine.specs.Memory.{read}
+use Rattle.asm_core.specs.Origins.{Origins, labels_over, source_end}
 use Rattle.chip8_lang.specs.declared.view.Edition.{Edition}
 use Rattle.chip8_lang.specs.declared.view.Edition.TheVariants.{Usual, Tall}
 use Rattle.chip8_lang.specs.Editions.{memory_end}
@@ -44,24 +45,26 @@ same_pieces f g a (suc n) same =
     (same_pieces f g (a + 1) n (λ k from to. same k (omega (arith, from)) (omega (arith, to))))
 
 -- lines of the same bytes are the same
-module _ (f g : ℕ → ℕ) (labels : ℕ → List (List ℕ)) (address count : ℕ)
+module _ (f g : ℕ → ℕ) (origins : Origins) (address count : ℕ)
     (same : (a : ℕ) → address ≤ a → a < address + 2 * count → f a ≡ g a) where
-  same_line : (k : ℕ) → k < count → code_line f (address + 2 * k) ≡ code_line g (address + 2 * k)
+  same_line : (k : ℕ) → k < count → code_line f origins (address + 2 * k) ≡ code_line g origins (address + 2 * k)
   unfolding code_line
   same_line k below =
       ap₂
-      (λ high low. hex4 (address + 2 * k) ++ codes " " ++ (if address + 2 * k == 0xffff then byte_text high else opcode_text (high * 256 + low)) ++ newline)
+      (λ high low.
+      hex4 (address + 2 * k) ++ codes " " ++ (if address + 2 * k == 0xffff then byte_text high else opcode_text (high * 256 + low))
+      ++ source_end origins false (address + 2 * k) (if address + 2 * k == 0xffff then high ∷ [] else high ∷ low ∷ []) ++ newline)
       (same (address + 2 * k) (omega arith) (omega (arith, below)))
       (same (address + 2 * k + 1) (omega arith) (omega (arith, below)))
 
-  same_lines : code_lines f labels address count ≡ code_lines g labels address count
+  same_lines : code_lines f origins address count ≡ code_lines g origins address count
   same_lines =
-      same_pieces (code_pieces f labels address) (code_pieces g labels address) 0 (min count ((0x10001 - address) / 2))
-      (λ k from to. ap (λ line. labels (address + 2 * k) ++ line ∷ []) (same_line k (omega (arith, to))))
+      same_pieces (code_pieces f origins address) (code_pieces g origins address) 0 (min count ((0x10001 - address) / 2))
+      (λ k from to. ap (λ line. labels_over origins (address + 2 * k) ++ line ∷ []) (same_line k (omega (arith, to))))
 
 pub code_in_memory :
-    (e : Edition) (rom : List ℕ) (b : Machine) (labels : ℕ → List (List ℕ)) (address count : ℕ) → 0x200 ≤ address → address + 2 * count ≤ memory_end e
-    → code_lines (clear_byte rom b) labels address count ≡ code_lines (memory_byte (state_of e b)) labels address count
-code_in_memory e rom b labels address count from to =
-    same_lines (clear_byte rom b) (memory_byte (state_of e b)) labels address count
+    (e : Edition) (rom : List ℕ) (b : Machine) (origins : Origins) (address count : ℕ) → 0x200 ≤ address → address + 2 * count ≤ memory_end e
+    → code_lines (clear_byte rom b) origins address count ≡ code_lines (memory_byte (state_of e b)) origins address count
+code_in_memory e rom b origins address count from to =
+    same_lines (clear_byte rom b) (memory_byte (state_of e b)) origins address count
     (λ a low high. same_byte e rom b a (omega (arith, from, low)) (omega (arith, high, to)))

@@ -1,14 +1,12 @@
 -- What a command writes, by the board and by what it tells.
 use Rattle.std.proofs.Common.{◌≡◌, ℕ, Bool, true, false, List, [], ◌∷◌, ◌++◌, take, refl, sym, ap, ◌∙◌, Some, None, Option}
 use Rattle.std.specs.Prelude.{if◌then◌else◌, codes}
-use Rattle.asm_core.specs.Origins.{labels_over}
 use Rattle.machine.specs.Board.{Machine}
 use Rattle.chip8_lang.specs.declared.view.StopRecord.{StopRecord}
 use Rattle.chip8_lang.specs.Events.{is_stop}
 use Rattle.chip8_lang.specs.View.{view_at}
 use Rattle.vip_byte.specs.Text.{newline}
-use Rattle.vip_text.specs.Traces.{trace_line}
-use Rattle.vip_text.specs.declared.trace.TraceColumns.{TraceColumns}
+use Rattle.vip_text.specs.Traces.{told_line}
 use Rattle.vip_relation.specs.State.{VipState, interpreter, events_to, state_after}
 use Rattle.vip_relation.specs.Follows.{Follows, last_view, last_screen}
 use Rattle.vip_relation.specs.Meets.{IsSame}
@@ -25,9 +23,9 @@ use Rattle.vip_debug.proofs.Places.{begun-same, state-same}
 -- ---- what is told of the events met
 
 module _ (looks : Looks) (v : VipState) (f : Follows v) where
-  pub state-told : state_line looks.columns v.last ∷ [] ≡ told looks (begun v) State (place_of v)
+  pub state-told : state_line looks.origins looks.columns v.last ∷ [] ≡ told looks (begun v) State (place_of v)
   state-told =
-      ap (λ last. state_line looks.columns last ∷ []) (f.last ∙ ap (λ (b : Machine). last_view v.edition (take v.met (events_to v b.cycle))) f.machine)
+      ap (λ last. state_line looks.origins looks.columns last ∷ []) (f.last ∙ ap (λ (b : Machine). last_view v.edition (take v.met (events_to v b.cycle))) f.machine)
 
   pub screen-told : screen_text v.edition v.shown ∷ [] ≡ told looks (begun v) Screen (place_of v)
   screen-told =
@@ -37,11 +35,11 @@ module _ (looks : Looks) (v : VipState) (f : Follows v) where
 
 module _ (looks : Looks) (v : VipState) (f : Follows v) where
   pub code-told : (address count : ℕ)
-      → code_lines (clear_reads (record { ram = v.board.machine.ram; rom = v.board.rom; latch = v.board.machine.latch })) (labels_over looks.origins) address count
+      → code_lines (clear_reads (record { ram = v.board.machine.ram; rom = v.board.rom; latch = v.board.machine.latch })) looks.origins address count
       ≡ told looks (begun v) (Code address count) (place_of v)
   code-told address count =
-      ap (λ rom. code_lines (clear_byte rom v.board.machine) (labels_over looks.origins) address count) f.rom
-      ∙ ap (λ (b : Machine). code_lines (clear_byte (interpreter v).rom b) (labels_over looks.origins) address count) f.machine
+      ap (λ rom. code_lines (clear_byte rom v.board.machine) looks.origins address count) f.rom
+      ∙ ap (λ (b : Machine). code_lines (clear_byte (interpreter v).rom b) looks.origins address count) f.machine
 
 -- ---- where the board stands
 
@@ -152,10 +150,10 @@ module _ (old v : VipState) (g : Follows v) (a : Arrival) (completed : Bool) (sa
     writes-end is goes = lines-end v g completed lines is goes ∙ arrived
 
   -- the record of the dispatch point
-  pub point-lines : (columns : TraceColumns) → Follows old
-      → trace_line columns (view_at v.edition v.board.machine) ∷ [] ≡ trace_line columns
+  pub point-lines : (looks : Looks) → Follows old
+      → told_line looks.origins looks.columns (view_at v.edition v.board.machine) ∷ [] ≡ told_line looks.origins looks.columns
       (view_at (begun old).edition (state_after (begun old) a.place.moves)) ∷ []
-  point-lines columns f =
-      ap (λ e. trace_line columns (view_at e v.board.machine) ∷ []) same.edition
-      ∙ ap (λ b. trace_line columns (view_at old.edition b) ∷ [])
+  point-lines looks f =
+      ap (λ e. told_line looks.origins looks.columns (view_at e v.board.machine) ∷ []) same.edition
+      ∙ ap (λ b. told_line looks.origins looks.columns (view_at old.edition b) ∷ [])
       (g.machine ∙ state-same old v f g same v.moves ∙ ap (λ (p : Place). state_after old p.moves) place)

@@ -6,7 +6,6 @@ use Rattle.std.proofs.Math.Seq.{drop-append_seam, take-length}
 use Rattle.std.proofs.lemmas.Bool.{eqb-true}
 use Rattle.std.proofs.lemmas.List.Elements.{filter_map-append}
 use Rattle.std.proofs.lemmas.List.Folds.{find_at}
-use Rattle.asm_core.specs.Origins.{labels_over}
 use Rattle.machine.specs.Board.{Machine, case_of, move}
 use Rattle.machine.specs.Instruction.{at}
 use Rattle.machine.specs.Keys.{Event as KeyEvent, held_at}
@@ -30,7 +29,7 @@ use Rattle.vip_relation.specs.declared.point.Point.{Point}
 use Rattle.vip_relation.specs.declared.point.Point.TheVariants.{Dispatch as DispatchPoint, Stop as StopPoint, Other as OtherPoint}
 use Rattle.vip_relation.proofs.Beginning.{begins-running}
 use Rattle.vip_relation.proofs.Past.{state, past, past-first, pictures, point, earlier, before}
-use Rattle.vip_text.specs.Traces.{trace_line}
+use Rattle.vip_text.specs.Traces.{told_line}
 use Rattle.vip_words.specs.Spoken.{Spoken}
 use Rattle.vip_words.specs.declared.debug_commands.Command.{Command}
 use Rattle.vip_words.specs.declared.debug_commands.Command.TheVariants.{Runs, Shows, Seeks, Tells}
@@ -444,10 +443,10 @@ module _ (e : Edition) (s : Start) (script script' : List KeyEvent) (begins : is
     running_same : (running : Running) → running_lines v limit running p ≡ running_lines u limit running q
     running_same running =
         lines_on (ran v limit running p) (ran u limit running q) (ran_both running) (by_command (Runs running))
-        (completed_lines (run_at v (j + n)) running (came (run_at v (j + n)) limit running).moves)
-        (completed_lines (run_at u j) running (came (run_at u j) limit running).moves)
-        (ap (λ (c : Came). completed_lines (run_at v (j + n)) running c.moves) (came_on running)
-        ∙ ap (λ r. completed_lines r running (came (run_at u j) limit running).moves) run_on
+        (completed_lines None (run_at v (j + n)) running (came (run_at v (j + n)) limit running).moves)
+        (completed_lines None (run_at u j) running (came (run_at u j) limit running).moves)
+        (ap (λ (c : Came). completed_lines None (run_at v (j + n)) running c.moves) (came_on running)
+        ∙ ap (λ r. completed_lines None r running (came (run_at u j) limit running).moves) run_on
         ∙ same-lines i.rom (is_stop i) (at_u j) script script' keys_on running (came (run_at u j) limit running).moves)
 
     -- at a dispatch point that was looked for
@@ -477,7 +476,7 @@ module _ (e : Edition) (s : Start) (script script' : List KeyEvent) (begins : is
     seeking_same : (seeking : Seeking) → seeking_lines looks v (sought v limit seeking p) ≡ seeking_lines looks u (sought u limit seeking q)
     seeking_same seeking =
         lines_on (sought v limit seeking p) (sought u limit seeking q) (sought_both seeking) (by_command (Seeks seeking)) _ _
-        (ap (λ b. trace_line looks.columns (view_at e b) ∷ [])
+        (ap (λ b. told_line looks.origins looks.columns (view_at e b) ∷ [])
         (machine_there (sought v limit seeking p) (sought u limit seeking q) (sought_both seeking) (by_command (Seeks seeking))))
 
     -- what was met
@@ -486,9 +485,9 @@ module _ (e : Edition) (s : Start) (script script' : List KeyEvent) (begins : is
         ap last_dispatch (take-length (events_by v (j + n))) ∙ last_on j reached ∙ ap last_dispatch (sym (take-length (events_by u j)))
 
     told_same : (telling : Telling) → told looks v telling p ≡ told looks u telling q
-    told_same State = ap (λ last. state_line looks.columns (option_map (view_at e) last) ∷ []) met_on
+    told_same State = ap (λ last. state_line looks.origins looks.columns (option_map (view_at e) last) ∷ []) met_on
     told_same Screen = ap (λ last. screen_text e (option_map_or (screen_bytes e) last (replicate (screen_size e) 0)) ∷ []) met_on
-    told_same (Code address count) = ap (λ b. code_lines (clear_byte i.rom b) (labels_over looks.origins) address count) (state_on j)
+    told_same (Code address count) = ap (λ b. code_lines (clear_byte i.rom b) looks.origins address count) (state_on j)
 
     one_same : (c : Command) → SamePieces c p q
     one_same (Runs running) = record { lines = running_same running; places = (ran_both running).places }

@@ -9,9 +9,10 @@ use Rattle.machine.specs.declared.Kind.TheVariants.{Idl}
 use Rattle.machine.specs.Opcodes.{kind_of}
 use Rattle.vip_isa.specs.Rows.{size_of}
 use Rattle.vip_isa.specs.Texts.{instruction_text, operand_at}
+use Rattle.asm_core.specs.Origins.{Origins}
 use Rattle.asm_lex.specs.Words.{size_at}
 use Rattle.asm_lex.specs.declared.shape.Isa.TheVariants.{Cdp1802}
-use Rattle.asm_listing.specs.Disassembly.{data_text, opcode_in, size_in, is_data, taken, first_line, ended_line, starts}
+use Rattle.asm_listing.specs.Disassembly.{data_text, opcode_in, size_in, is_data, taken, first_line, starts}
 use Rattle.vip_byte.specs.Text.{newline}
 use Rattle.asm_listing.proofs.FirstLines.{taken_some, taken_within}
 use Rattle.asm_core.proofs.Cells.{length-range}
@@ -22,7 +23,7 @@ use Rattle.vip_outside.specs.Pieces.{PutsAll, FailsWithin, StreamAnswers}
 use Rattle.vip_outside.specs.declared.sink.Failed.{Failed}
 use Rattle.vip_outside.proofs.PiecesLemmas.{PutsAll-nil, PutsAll-append, FailsWithin-append, FailsWithin-more, StreamAnswers-err}
 use Rattle.vip_debug.specs.declared.bytes.Layout.{Layout}
-use Rattle.vip_debug.specs.BoardShown.{bytes_from, front_text, line_in, lines_of, pieces_in, instruction_lines}
+use Rattle.vip_debug.specs.BoardShown.{bytes_from, end_in, front_text, line_by, line_in, lines_of, pieces_in, instruction_lines}
 use Rattle.vip_debug.specs.BoardParts.{PutsLine}
 
 -- ---- a line shows three bytes at most
@@ -53,17 +54,17 @@ module _ (x y z : ℕ) (rest : List ℕ) where
   unfolding instruction_text operand_at
   instruction_same at = refl
 
-  line_same : (at : ℕ) → ended_line Cdp1802 at all ≡ ended_line Cdp1802 at three
+  line_same : (at : ℕ) → first_line Cdp1802 at all ≡ first_line Cdp1802 at three
   unfolding first_line
   line_same at =
-      ap (λ b. (if b then data_text x else codes " " ++ instruction_text at all) ++ newline) data_same
-      ∙ ap (λ text. (if is_data Cdp1802 three then data_text x else codes " " ++ text) ++ newline) (instruction_same at)
+      ap (λ b. if b then data_text x else codes " " ++ instruction_text at all) data_same
+      ∙ ap (λ text. if is_data Cdp1802 three then data_text x else codes " " ++ text) (instruction_same at)
 
   taken_same : taken Cdp1802 all ≡ taken Cdp1802 three
   unfolding taken size_in
   taken_same = ap (λ b. if b then 1 else size_at x) data_same
 
-pub line-three : (bytes : List ℕ) (at : ℕ) → ended_line Cdp1802 at (take 3 bytes) ≡ ended_line Cdp1802 at bytes
+pub line-three : (bytes : List ℕ) (at : ℕ) → first_line Cdp1802 at (take 3 bytes) ≡ first_line Cdp1802 at bytes
 line-three [] at = refl
 line-three (x ∷ []) at = refl
 line-three (x ∷ y ∷ []) at = refl
@@ -141,34 +142,42 @@ module _ (byte : ℕ → ℕ) (at have p q r : ℕ) (low : at < 0x10000) (size :
       ∙ ap (λ n. take n (take 3 bytes)) taken-read
       ∙ take-take (taken Cdp1802 bytes) 3 bytes (taken-few bytes)
 
-  pub line-read : (layout : Layout) → front_text layout at (take (taken Cdp1802 (take have read)) read) ++ ended_line Cdp1802 at (take have read) ≡ line_in layout at bytes
+  pub line-read : (origins : Origins) (latch : Bool) (layout : Layout)
+      → line_by origins latch layout at (take (taken Cdp1802 (take have read)) read) (take have read) ≡ line_in origins latch layout at bytes
   unfolding line_in
-  line-read layout =
-      ap (λ front. front_text layout at front ++ ended_line Cdp1802 at (take have read)) front_read
-      ∙ ap (λ line. front_text layout at (take (taken Cdp1802 bytes) bytes) ++ line) (ap (ended_line Cdp1802 at) read_three ∙ line-three bytes at)
+  line-read origins latch layout =
+      ap (λ shown. line_by origins latch layout at shown (take have read)) front_read
+      ∙ ap (λ line. front_text layout at shown ++ line ++ end_in origins latch layout at shown ++ newline)
+      (ap (first_line Cdp1802 at) read_three ∙ line-three bytes at)
+    where
+      shown : List ℕ
+      shown = take (taken Cdp1802 bytes) bytes
 
 -- the parts of a line in an empty buffer
-pub line-joined : (layout : Layout) (at shown : ℕ) (three part piece whole front empty line : List ℕ) → empty ≡ []
+pub line-joined : (origins : Origins) (latch : Bool) (layout : Layout) (at shown : ℕ) (three part piece whole ended worded front empty line : List ℕ) → empty ≡ []
     → front ≡ empty ++ front_text layout at (take shown three)
-    → whole ≡ front ++ line → piece ≡ whole → line ≡ ended_line Cdp1802 at part → shown ≡ taken Cdp1802 part
-    → piece ≡ front_text layout at (take (taken Cdp1802 part) three) ++ ended_line Cdp1802 at part
-line-joined layout at shown three part piece whole front empty line none before all is rest size =
+    → worded ≡ front ++ line → ended ≡ worded ++ end_in origins latch layout at (take shown three) → whole ≡ ended ++ newline
+    → piece ≡ whole → line ≡ first_line Cdp1802 at part → shown ≡ taken Cdp1802 part
+    → piece ≡ line_by origins latch layout at (take (taken Cdp1802 part) three) part
+line-joined origins latch layout at shown three part piece whole ended worded front empty line none before words behind all is rest size =
+    let first = front_text layout at (take shown three) in
+    let last = end_in origins latch layout at (take shown three) in
     is ∙ all
-    ∙ ap (λ xs. xs ++ line) (before ∙ ap (λ xs. xs ++ front_text layout at (take shown three)) none)
-    ∙ ap (λ xs. front_text layout at (take shown three) ++ xs) rest
-    ∙ ap (λ n. front_text layout at (take n three) ++ ended_line Cdp1802 at part) size
+    ∙ ap (λ xs. xs ++ newline) (behind ∙ ap (λ xs. xs ++ last) (words ∙ ap (λ xs. xs ++ line) (before ∙ ap (λ xs. xs ++ first) none)))
+    ∙ ap (λ xs. first ++ xs ++ last ++ newline) rest
+    ∙ ap (λ n. line_by origins latch layout at (take n three) part) size
 
 -- at whatever error is passed on
-pub line-fails : (labels : ℕ → List (List ℕ)) (layout : Layout) (byte : ℕ → ℕ) (at : ℕ) (old new : SinkMeaning) (r : Result ℕ Failed) → IsErr r
-    → FailsWithin (pieces_in labels layout at (bytes_from byte at (0x10000 - at))) old new → PutsLine labels layout byte at old new r
-line-fails labels layout byte at old new (Ok shown) bad fault = cc
-line-fails labels layout byte at old new (Err e) bad fault = fault
+pub line-fails : (origins : Origins) (latch : Bool) (layout : Layout) (byte : ℕ → ℕ) (at : ℕ) (old new : SinkMeaning) (r : Result ℕ Failed) → IsErr r
+    → FailsWithin (pieces_in origins latch layout at (bytes_from byte at (0x10000 - at))) old new → PutsLine origins latch layout byte at old new r
+line-fails origins latch layout byte at old new (Ok shown) bad fault = cc
+line-fails origins latch layout byte at old new (Err e) bad fault = fault
 
 -- ---- one line after another
 
-module _ (labels : ℕ → List (List ℕ)) (layout : Layout) (byte : ℕ → ℕ) where
+module _ (origins : Origins) (latch : Bool) (layout : Layout) (byte : ℕ → ℕ) where
   abbrev pub lines_left : ℕ → ℕ → List (List ℕ)
-  lines_left at count = lines_of labels layout (take count (starts Cdp1802 0 at (bytes_from byte at (0x10000 - at))))
+  lines_left at count = lines_of origins latch layout (take count (starts Cdp1802 0 at (bytes_from byte at (0x10000 - at))))
 
   length_bytes : (at n : ℕ) → length (bytes_from byte at n) ≡ n
   length_bytes at n = length-map (range_with_len at n) byte ∙ length-range n at
@@ -185,21 +194,21 @@ module _ (labels : ℕ → List (List ℕ)) (layout : Layout) (byte : ℕ → �
       omega (arith, size, taken_within Cdp1802 (bytes_from byte at (0x10000 - at)) (omega (arith, size, low)))
 
   left_next : (at count : ℕ) → at < 0x10000
-      → lines_left at (suc count) ≡ pieces_in labels layout at (bytes_from byte at (0x10000 - at)) ++ lines_left (at + shown_at at) count
+      → lines_left at (suc count) ≡ pieces_in origins latch layout at (bytes_from byte at (0x10000 - at)) ++ lines_left (at + shown_at at) count
   left_next at count low =
       let bytes = bytes_from byte at (0x10000 - at) in
       let size : length bytes ≡ 0x10000 - at = length_bytes at (0x10000 - at) in
       let rest : 0x10000 - at - shown_at at ≡ 0x10000 - (at + shown_at at) = omega arith in
-      ap (λ all. lines_of labels layout (take (suc count) all)) (starts-first Cdp1802 bytes at (taken_some Cdp1802 bytes) (omega (arith, size, shown_most at low)))
-      ∙ ap (λ more. pieces_in labels layout at bytes ++ lines_of labels layout (take count (starts Cdp1802 0 (at + shown_at at) more)))
+      ap (λ all. lines_of origins latch layout (take (suc count) all)) (starts-first Cdp1802 bytes at (taken_some Cdp1802 bytes) (omega (arith, size, shown_most at low)))
+      ∙ ap (λ more. pieces_in origins latch layout at bytes ++ lines_of origins latch layout (take count (starts Cdp1802 0 (at + shown_at at) more)))
       (drop_bytes (shown_at at) at (0x10000 - at) ∙ ap (bytes_from byte (at + shown_at at)) rest)
 
   left_none : (at count : ℕ) → 0x10000 ≤ at → lines_left at count ≡ []
   left_none at count past =
       let none : 0x10000 - at ≡ 0 = omega (arith, past) in
-      ap (λ n. lines_of labels layout (take count (starts Cdp1802 0 at (bytes_from byte at n)))) none ∙ nothing count
+      ap (λ n. lines_of origins latch layout (take count (starts Cdp1802 0 at (bytes_from byte at n)))) none ∙ nothing count
     where
-      nothing : (count : ℕ) → lines_of labels layout (take count []) ≡ []
+      nothing : (count : ℕ) → lines_of origins latch layout (take count []) ≡ []
       nothing zero = refl
       nothing (suc count) = refl
 
@@ -207,7 +216,7 @@ module _ (labels : ℕ → List (List ℕ)) (layout : Layout) (byte : ℕ → �
   pub record Disassembles (address count : ℕ) (old new : SinkMeaning) (at line : ℕ) : Type 0 where
     pub done : List (List ℕ)
     pub puts : PutsAll done old new
-    pub split : instruction_lines byte labels layout address count ≡ done ++ lines_left at (count - line)
+    pub split : instruction_lines byte origins latch layout address count ≡ done ++ lines_left at (count - line)
     pub low : at ≤ 0x10000
 
   pub disassembles-first : (address count : ℕ) (old : SinkMeaning) → address ≤ 0x10000 → Disassembles address count old old address 0
@@ -218,41 +227,41 @@ module _ (labels : ℕ → List (List ℕ)) (layout : Layout) (byte : ℕ → �
 
   module _ (address count : ℕ) (old middle new : SinkMeaning) (at line : ℕ) (s : Disassembles address count old middle at line) (low : at < 0x10000)
       (below : line < count) where
-    next_split : instruction_lines byte labels layout address count ≡ s.done ++ (pieces_in labels layout at (bytes_from byte at (0x10000 - at)) ++ lines_left (at + shown_at at)
+    next_split : instruction_lines byte origins latch layout address count ≡ s.done ++ (pieces_in origins latch layout at (bytes_from byte at (0x10000 - at)) ++ lines_left (at + shown_at at)
         (count - (line + 1)))
     next_split =
         let more : count - line ≡ suc (count - (line + 1)) = omega (arith, below) in
         s.split ∙ ap (λ n. s.done ++ lines_left at n) more ∙ ap (λ lines. s.done ++ lines) (left_next at (count - (line + 1)) low)
 
-    pub disassembles-next : (shown : ℕ) → PutsLine labels layout byte at middle new (Ok shown) → Disassembles address count old new (at + shown) (line + 1)
+    pub disassembles-next : (shown : ℕ) → PutsLine origins latch layout byte at middle new (Ok shown) → Disassembles address count old new (at + shown) (line + 1)
     disassembles-next shown put =
         record {
-          done = s.done ++ pieces_in labels layout at (bytes_from byte at (0x10000 - at));
-          puts = PutsAll-append s.done (pieces_in labels layout at (bytes_from byte at (0x10000 - at))) old middle new s.puts put.0;
+          done = s.done ++ pieces_in origins latch layout at (bytes_from byte at (0x10000 - at));
+          puts = PutsAll-append s.done (pieces_in origins latch layout at (bytes_from byte at (0x10000 - at))) old middle new s.puts put.0;
           split =
               next_split
-              ∙ sym (append_assoc s.done (pieces_in labels layout at (bytes_from byte at (0x10000 - at))) (lines_left (at + shown_at at) (count - (line + 1))))
-              ∙ ap (λ n. (s.done ++ pieces_in labels layout at (bytes_from byte at (0x10000 - at))) ++ lines_left (at + n) (count - (line + 1))) (sym put.1);
+              ∙ sym (append_assoc s.done (pieces_in origins latch layout at (bytes_from byte at (0x10000 - at))) (lines_left (at + shown_at at) (count - (line + 1))))
+              ∙ ap (λ n. (s.done ++ pieces_in origins latch layout at (bytes_from byte at (0x10000 - at))) ++ lines_left (at + n) (count - (line + 1))) (sym put.1);
           low = omega (arith, put.1, shown_most at low);
         }
 
-    pub disassembles-fail : (e : Failed) (r : Result (Unit {0}) Failed) → IsErr r → PutsLine labels layout byte at middle new (Err e)
-        → StreamAnswers (instruction_lines byte labels layout address count) old new r
+    pub disassembles-fail : (e : Failed) (r : Result (Unit {0}) Failed) → IsErr r → PutsLine origins latch layout byte at middle new (Err e)
+        → StreamAnswers (instruction_lines byte origins latch layout address count) old new r
     disassembles-fail e r bad fault =
-        let here = pieces_in labels layout at (bytes_from byte at (0x10000 - at)) in
+        let here = pieces_in origins latch layout at (bytes_from byte at (0x10000 - at)) in
         let rest = lines_left (at + shown_at at) (count - (line + 1)) in
-        StreamAnswers-err (instruction_lines byte labels layout address count) old new r bad
+        StreamAnswers-err (instruction_lines byte origins latch layout address count) old new r bad
         (subst (λ pieces. FailsWithin pieces old new) (sym next_split)
         (FailsWithin-append s.done (here ++ rest) old middle new s.puts (FailsWithin-more here rest middle new fault)))
 
   module _ (address count : ℕ) (old new : SinkMeaning) (at line : ℕ) (s : Disassembles address count old new at line) where
-    all_done : lines_left at (count - line) ≡ [] → PutsAll (instruction_lines byte labels layout address count) old new
+    all_done : lines_left at (count - line) ≡ [] → PutsAll (instruction_lines byte origins latch layout address count) old new
     all_done none = subst (λ lines. PutsAll lines old new) (sym (s.split ∙ ap (λ lines. s.done ++ lines) none ∙ append-nil s.done)) s.puts
 
-    pub disassembles-end : 0x10000 ≤ at → PutsAll (instruction_lines byte labels layout address count) old new
+    pub disassembles-end : 0x10000 ≤ at → PutsAll (instruction_lines byte origins latch layout address count) old new
     disassembles-end past = all_done (left_none at (count - line) past)
 
-    pub disassembles-all : count ≤ line → PutsAll (instruction_lines byte labels layout address count) old new
+    pub disassembles-all : count ≤ line → PutsAll (instruction_lines byte origins latch layout address count) old new
     disassembles-all past =
         let none : count - line ≡ 0 = omega (arith, past) in
         all_done (ap (lines_left at) none)

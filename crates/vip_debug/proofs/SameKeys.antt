@@ -87,7 +87,7 @@ module _ (rom : List ℕ) (held held' : ℕ → Keys) (cycle : ℕ) (same : (t :
   pub same-line : (b : Machine) → cycle ≤ b.cycle → line_of rom held (b ∷ []) ≡ line_of rom held' (b ∷ [])
   unfolding line_from
   same-line b late =
-      ap (λ text. cycle_column b ++ text ++ newline)
+      ap (λ text. cycle_column b ++ text)
       (text_by (case_of b) rom held b
       ∙ ap (λ down. moves_text rom (all_as down) (case_of b) b (b ∷ [])) (same_look b late)
       ∙ sym (text_by (case_of b) rom held' b))
@@ -140,11 +140,11 @@ module _ (rom : List ℕ) (ends : Machine → Bool) (b : Machine) (script script
       same-line rom (held_at script) (held_at script') b.cycle same (state_of r k) (omega (arith, cycles-some rom (held_at script) k b))
       ∙ ap (λ c. line_of rom (held_at script') (c ∷ [])) (same-state k)
 
-  pub same-lines : (running : Running) (k : ℕ) → completed_lines r running k ≡ completed_lines r' running k
+  pub same-lines : (running : Running) (k : ℕ) → completed_lines None r running k ≡ completed_lines None r' running k
   same-lines (Step count) k = ap (λ c. (cycle_text c ++ newline) ∷ []) (same-state k)
   same-lines (To cycle) k = ap (λ c. (cycle_text c ++ newline) ∷ []) (same-state k)
   same-lines (At address) k = ap (λ c. (cycle_text c ++ newline) ∷ []) (same-state k)
   same-lines (Watch address count) k =
-      ap (λ line. line ∷ mem_lines (byte_of rom b) address count ++ mem_lines (bytes_at r k) address count) (line_same (k - 1))
-      ∙ ap (λ c. line_of rom (held_at script') (state_of r' (k - 1) ∷ []) ∷ mem_lines (byte_of rom b) address count ++ mem_lines (byte_of rom c) address count)
+      ap (λ line. (line ++ newline) ∷ mem_lines (byte_of rom b) address count ++ mem_lines (bytes_at r k) address count) (line_same (k - 1))
+      ∙ ap (λ c. (line_of rom (held_at script') (state_of r' (k - 1) ∷ []) ++ newline) ∷ mem_lines (byte_of rom b) address count ++ mem_lines (byte_of rom c) address count)
       (same-state k)

@@ -1,5 +1,5 @@
 -- The board makes moves, up to one that was looked for.
-use Rattle.std.proofs.Common.{◌≡◌, ◌⊎◌, inl, inr, ℕ, zero, suc, ◌+◌, ◌-◌, ◌<◌, ◌≤◌, Bool, true, false, List, [], ◌∷◌, ◌++◌, length, not, bytes_eq, refl, sym, ap, ap₂, ◌∙◌, subst, arith, min, nat_le, Some, None}
+use Rattle.std.proofs.Common.{◌≡◌, ◌⊎◌, inl, inr, ℕ, zero, suc, ◌+◌, ◌-◌, ◌<◌, ◌≤◌, Bool, true, false, List, [], ◌∷◌, ◌++◌, length, not, bytes_eq, refl, sym, ap, ap₂, ◌∙◌, subst, arith, min, nat_le, Option, Some, None}
 use Rattle.std.specs.Prelude.{◌==◌, find, if◌then◌else◌}
 use Rattle.std.specs.List.{range_with_len}
 use Rattle.std.specs.Option.{option_map_or}
@@ -23,7 +23,7 @@ use Rattle.vip_words.specs.declared.debug_commands.Running.{Running}
 use Rattle.vip_words.specs.declared.debug_commands.Running.TheVariants.{Watch}
 use Rattle.vip_byte.specs.Text.{newline}
 use Rattle.vip_debug.specs.declared.moves.Change.{Change}
-use Rattle.vip_debug.specs.Answered.{completed_lines}
+use Rattle.vip_debug.specs.Answered.{completed_lines, move_end, move_line}
 use Rattle.vip_debug.specs.Commands.{Came, after_steps, at_cycle, found_or_last, is_at, starts_in, starts_at, bytes_at}
 use Rattle.vip_program.specs.Lines.{line_of, place_in}
 use Rattle.vip_debug.specs.BoardShown.{cycle_text, rows, mem_lines, stretch, has_changed}
@@ -459,13 +459,14 @@ module _ (r : Run) (p : Progress) (s : Stands p) (run : p.run ≡ r) (b : Seen) 
       ∙ ap (λ machine. stretch (byte_of p.run.rom machine) address count) s.machine
       ∙ ap (λ x. stretch (bytes_at x p.made) address count) run
 
-  pub line-here : line_of b.rom (held_by b) (b.machine ∷ []) ≡ line_of r.rom (held_at r.script) (state_of r p.made ∷ [])
-  line-here =
-      ap (λ (x : Seen). line_of x.rom (held_by x) (x.machine ∷ [])) is
-      ∙ ap (λ rom. line_of rom (held_by p.board) (p.board.machine ∷ [])) s.rom
-      ∙ ap (λ (script : List Event). line_of p.run.rom (held_at script) (p.board.machine ∷ [])) s.script
-      ∙ ap (λ machine. line_of p.run.rom (held_at p.run.script) (machine ∷ [])) s.machine
-      ∙ ap (λ x. line_of x.rom (held_at x.script) (state_of x p.made ∷ [])) run
+  pub line-here : (told : Option Origins)
+      → line_of b.rom (held_by b) (b.machine ∷ []) ++ move_end told b.rom b.machine ≡ move_line told r (state_of r p.made)
+  line-here told =
+      ap (λ (x : Seen). line_of x.rom (held_by x) (x.machine ∷ []) ++ move_end told x.rom x.machine) is
+      ∙ ap (λ rom. line_of rom (held_by p.board) (p.board.machine ∷ []) ++ move_end told rom p.board.machine) s.rom
+      ∙ ap (λ (script : List Event). line_of p.run.rom (held_at script) (p.board.machine ∷ []) ++ move_end told p.run.rom p.board.machine) s.script
+      ∙ ap (λ machine. line_of p.run.rom (held_at p.run.script) (machine ∷ []) ++ move_end told p.run.rom machine) s.machine
+      ∙ ap (λ x. move_line told x (state_of x p.made)) run
 
   pub place-here : place_in (case_of b.machine) b.machine ≡ place_in (case_of (state_of r p.made)) (state_of r p.made)
   place-here =
@@ -570,26 +571,26 @@ module _ {X : Type 0} (seen : X → Seen) (ends : X → Machine → Bool) (leads
 -- ---- what a completed command writes
 
 module _ (r : Run) (limit : ℕ) (came : Came) (s : Seen) (answer : Bool) (a : Arrives limit r came s answer) where
-  pub lines-completed : (running : Running) (b : Seen) (change : Change) → b ≡ s → IsShown running r came.moves change
-      → lines_by running b change ≡ completed_lines r running came.moves
-  lines-completed (Watch address count) b change is told =
+  pub lines-completed : (source : Option Origins) (running : Running) (b : Seen) (change : Change) → b ≡ s → IsShown source running r came.moves change
+      → lines_by running b change ≡ completed_lines source r running came.moves
+  lines-completed source (Watch address count) b change is told =
       ap (λ line. line ∷ rows address change.before.items ++ rows address change.after.items) told.line
-      ∙ ap (λ bytes. line_of r.rom (held_at r.script) (state_of r (came.moves - 1) ∷ []) ∷ rows address bytes ++ rows address change.after.items) told.before
-      ∙ ap (λ bytes. line_of r.rom (held_at r.script) (state_of r (came.moves - 1) ∷ []) ∷ mem_lines (bytes_at r 0) address count ++ rows address bytes)
+      ∙ ap (λ bytes. move_line source r (state_of r (came.moves - 1)) ∷ rows address bytes ++ rows address change.after.items) told.before
+      ∙ ap (λ bytes. move_line source r (state_of r (came.moves - 1)) ∷ mem_lines (bytes_at r 0) address count ++ rows address bytes)
       told.after
-  lines-completed _ b change is told =
+  lines-completed source _ b change is told =
       ap (λ (x : Seen). (cycle_text x.machine ++ newline) ∷ []) is ∙ ap (λ machine. (cycle_text machine ++ newline) ∷ []) a.machine
 
 -- and the labels at the instruction that changed a byte
 pub labels-completed : (origins : Origins) (rom : List ℕ) (script : List Event) (limit : ℕ) (running : Running) (b : Machine) (change : Change)
-    → IsShown running (run_on rom script limit b) (comes rom script limit running b).moves change
+    → IsShown (Some origins) running (run_on rom script limit b) (comes rom script limit running b).moves change
     → labels_by origins running change ≡ changing rom script limit origins running b
 labels-completed origins rom script limit (Watch address count) b change told = ap (λ place. option_map_or (labels_over origins) place []) told.place
 labels-completed origins rom script limit _ b change told = refl
 
-pub fits : (running : Running) (r : Run) (k : ℕ) (change : Change) → IsShown running r k change → Fits running change
-fits (Watch address count) r k change told = (
+pub fits : (source : Option Origins) (running : Running) (r : Run) (k : ℕ) (change : Change) → IsShown source running r k change → Fits running change
+fits source (Watch address count) r k change told = (
   subst (λ bytes. length bytes ≤ 0x10000 - address) (sym told.before) (stretch-short (bytes_at r 0) address count),
   subst (λ bytes. length bytes ≤ 0x10000 - address) (sym told.after) (stretch-short (bytes_at r k) address count),
 )
-fits _ r k change told = tt
+fits source _ r k change told = tt

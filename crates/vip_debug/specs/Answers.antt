@@ -3,13 +3,12 @@
 use Rattle.std.specs.Option.{option_to_list}
 use Rattle.std.specs.Prelude.{◌≡◌, ◌⊎◌, ℕ, ◌+◌, ◌-◌, ◌==◌, if◌then◌else◌, Bool, true, false, List, [], ◌∷◌, ◌++◌, length, take, drop, find, filter_map, Option, Some, None, codes, slice_get}
 use Rattle.machine.specs.Board.{Machine}
-use Rattle.asm_core.specs.Origins.{labels_over}
 use Rattle.chip8_lang.specs.declared.view.StopRecord.{StopRecord}
 use Rattle.chip8_lang.specs.Events.{Event, is_stop}
 use Rattle.chip8_lang.specs.View.{view_at}
 use Rattle.vip_text.specs.Stops.{stop_line}
 use Rattle.vip_byte.specs.Text.{newline}
-use Rattle.vip_text.specs.Traces.{trace_line}
+use Rattle.vip_text.specs.Traces.{told_line}
 use Rattle.vip_outside.specs.Sink.{SinkMeaning}
 use Rattle.vip_outside.specs.Pieces.{PutsAll, FailsWithin}
 use Rattle.vip_relation.specs.State.{VipState, first_events, interpreter, events_to, begun as begun_from, state_after}
@@ -118,17 +117,17 @@ lines_at v a lines =
 
 abbrev pub running_lines : VipState → ℕ → Running → Place → List (List ℕ)
 running_lines v limit running p =
-    let r = run_at v p.moves in lines_at v (ran v limit running p) (completed_lines r running (came r limit running).moves)
+    let r = run_at v p.moves in lines_at v (ran v limit running p) (completed_lines None r running (came r limit running).moves)
 
--- of a dispatch point its record
+-- of a dispatch point its record, with the source's line that gave its opcode, where that is told
 abbrev pub seeking_lines : Looks → VipState → Arrival → List (List ℕ)
-seeking_lines looks v a = lines_at v a (trace_line looks.columns (view_at v.edition (state_after v a.place.moves)) ∷ [])
+seeking_lines looks v a = lines_at v a (told_line looks.origins looks.columns (view_at v.edition (state_after v a.place.moves)) ∷ [])
 
 -- what was met of the language, or opcodes in words; a screen is one piece
 abbrev pub told : Looks → VipState → Telling → Place → List (List ℕ)
-told looks v State p = state_line looks.columns (last_view v.edition (met_at v p)) ∷ []
+told looks v State p = state_line looks.origins looks.columns (last_view v.edition (met_at v p)) ∷ []
 told looks v Screen p = screen_text v.edition (last_screen v.edition (met_at v p)) ∷ []
-told looks v (Code address count) p = code_lines (clear_byte (interpreter v).rom (state_after v p.moves)) (labels_over looks.origins) address count
+told looks v (Code address count) p = code_lines (clear_byte (interpreter v).rom (state_after v p.moves)) looks.origins address count
 
 -- each line is a piece of its own, that of a label too
 abbrev pub pieces : Looks → VipState → ℕ → Command → Place → List (List ℕ)

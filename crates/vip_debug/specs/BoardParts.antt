@@ -1,7 +1,6 @@
 -- What the parts of a command make.
-use Rattle.std.specs.Prelude.{◌≡◌, ◌⊎◌, ℕ, ◌-◌, ◌<◌, ◌≤◌, Bool, false, List, [], ◌∷◌, ◌++◌, length, Result, Ok, Err}
+use Rattle.std.specs.Prelude.{◌≡◌, ◌⊎◌, ℕ, ◌-◌, ◌<◌, ◌≤◌, Bool, false, List, [], ◌∷◌, ◌++◌, length, Option, Result, Ok, Err}
 use Rattle.machine.specs.Board.{case_of}
-use Rattle.machine.specs.Keys.{held_at}
 use Rattle.machine.specs.Memory.{read}
 use Rattle.vip_board.specs.Seen.{Seen}
 use Rattle.vip_byte.specs.Text.{newline}
@@ -19,7 +18,8 @@ use Rattle.vip_cpu.specs.declared.cpu.Phase.TheVariants.{Boundary}
 use Rattle.vip_debug.specs.TargetRun.{Run, state_of}
 use Rattle.vip_debug.specs.BoardShown.{cycle_text, rows, bytes_from, stretch, pieces_in}
 use Rattle.vip_debug.specs.Commands.{Came, bytes_at}
-use Rattle.vip_program.specs.Lines.{line_of, place_in}
+use Rattle.vip_program.specs.Lines.{place_in}
+use Rattle.vip_debug.specs.Answered.{move_line}
 use Rattle.asm_core.specs.Origins.{Origins, labels_over}
 use Rattle.std.specs.Option.{option_map_or}
 
@@ -39,16 +39,16 @@ abbrev pub HasMoved : {X : Type 0} (leads : ℕ → X → X → Type 0) → ℕ 
 HasMoved leads moves old new = ((moves ≡ 0) × (new ≡ old)) ⊎ ((0 < moves) × leads moves old new)
 
 -- what shows that bytes have changed by the k-th move
-pub record IsChange (r : Run) (address count k : ℕ) (change : Change) : Type 0 where
-  pub line : change.line.items ≡ line_of r.rom (held_at r.script) (state_of r (k - 1) ∷ [])
+pub record IsChange (told : Option Origins) (r : Run) (address count k : ℕ) (change : Change) : Type 0 where
+  pub line : change.line.items ≡ move_line told r (state_of r (k - 1))
   pub before : change.before.items ≡ stretch (bytes_at r 0) address count
   pub after : change.after.items ≡ stretch (bytes_at r k) address count
   pub place : change.place ≡ place_in (case_of (state_of r (k - 1))) (state_of r (k - 1))
 
 -- what shows a command that is completed: nothing is needed but the board, or what has changed
-abbrev pub IsShown : Running → Run → ℕ → Change → Type 0
-IsShown (Watch address count) r k change = IsChange r address count k change
-IsShown running r k change = Unit {0}
+abbrev pub IsShown : Option Origins → Running → Run → ℕ → Change → Type 0
+IsShown told (Watch address count) r k change = IsChange told r address count k change
+IsShown told running r k change = Unit {0}
 
 -- the lines of such a command, by the board and by what has changed
 abbrev pub lines_by : Running → Seen → Change → List (List ℕ)
@@ -76,8 +76,9 @@ abbrev pub clear_reads : Contents → ℕ → ℕ
 clear_reads m address = read m.rom false m.ram address
 
 -- the line of the instruction at an address went out behind those of its labels, and it shows so many bytes
-abbrev pub PutsLine : (ℕ → List (List ℕ)) → Layout → (ℕ → ℕ) → ℕ → SinkMeaning → SinkMeaning → Result ℕ Failed → Type 0
-PutsLine labels layout byte address old new (Ok shown) =
-    PutsAll (pieces_in labels layout address (bytes_from byte address (0x10000 - address))) old new
+abbrev pub PutsLine : Origins → Bool → Layout → (ℕ → ℕ) → ℕ → SinkMeaning → SinkMeaning → Result ℕ Failed → Type 0
+PutsLine origins latch layout byte address old new (Ok shown) =
+    PutsAll (pieces_in origins latch layout address (bytes_from byte address (0x10000 - address))) old new
     × (shown ≡ taken Cdp1802 (bytes_from byte address (0x10000 - address)))
-PutsLine labels layout byte address old new (Err e) = FailsWithin (pieces_in labels layout address (bytes_from byte address (0x10000 - address))) old new
+PutsLine origins latch layout byte address old new (Err e) =
+    FailsWithin (pieces_in origins latch layout address (bytes_from byte address (0x10000 - address))) old new

@@ -6,7 +6,8 @@ use Rattle.machine.specs.Instruction.{Regs, at}
 use Rattle.vip_byte.specs.HexText.{bytes_text, hex2, hex4, words_text}
 use Rattle.vip_byte.specs.Text.{bit_text, newline}
 use Rattle.asm_lex.specs.declared.shape.Isa.TheVariants.{Cdp1802}
-use Rattle.asm_listing.specs.Disassembly.{starts, taken, ended_line}
+use Rattle.asm_core.specs.Origins.{Origins, labels_read, source_end}
+use Rattle.asm_listing.specs.Disassembly.{first_line, starts, taken}
 use Rattle.asm_listing.specs.Listing.{first_digits}
 use Rattle.vip_program.specs.Lines.{selected_text}
 use Rattle.vip_debug.specs.declared.bytes.Layout.{Layout}
@@ -49,25 +50,34 @@ rows address bytes = map (row_at address bytes) (range_with_len 0 ((length bytes
 
 -- ---- an instruction
 
--- The line of an instruction, by the bytes from its address on: that of the disassembly; in the layout of a listing behind its address and
--- its bytes, in six places.
+-- The line of an instruction, by the bytes from its address on: that of the disassembly. In the layout of a listing it stands behind its address and the
+-- bytes that it shows, in six places, and before the source's line that gave them.
 abbrev pub front_text : Layout → ℕ → List ℕ → List ℕ
 front_text Source address bytes = []
 front_text Listing address bytes = hex4 address ++ codes " " ++ first_digits bytes
 
-unfoldable pub line_in : Layout → ℕ → List ℕ → List ℕ
-line_in layout address bytes = front_text layout address (take (taken Cdp1802 bytes) bytes) ++ ended_line Cdp1802 address bytes
+-- what a source gave, and whether the boot latch is set through which the bytes are read
+module _ (origins : Origins) (latch : Bool) where
+  abbrev pub end_in : Layout → ℕ → List ℕ → List ℕ
+  end_in Source address bytes = []
+  end_in Listing address bytes = source_end origins latch address bytes
 
--- before a line of a listing stand the lines of labels that are told for its address
-abbrev pub labels_in : (ℕ → List (List ℕ)) → Layout → ℕ → List (List ℕ)
-labels_in labels Source address = []
-labels_in labels Listing address = labels address
+  abbrev pub line_by : Layout → ℕ → List ℕ → List ℕ → List ℕ
+  line_by layout address shown bytes = front_text layout address shown ++ first_line Cdp1802 address bytes ++ end_in layout address shown ++ newline
 
-abbrev pub pieces_in : (ℕ → List (List ℕ)) → Layout → ℕ → List ℕ → List (List ℕ)
-pieces_in labels layout address bytes = labels_in labels layout address ++ line_in layout address bytes ∷ []
+  unfoldable pub line_in : Layout → ℕ → List ℕ → List ℕ
+  line_in layout address bytes = line_by layout address (take (taken Cdp1802 bytes) bytes) bytes
 
-abbrev pub lines_of : (ℕ → List (List ℕ)) → Layout → List (ℕ × List ℕ) → List (List ℕ)
-lines_of labels layout all = flat_map (λ start. pieces_in labels layout start.0 start.1) all
+  -- before a line of a listing stand those of the labels at its byte
+  abbrev pub labels_in : Layout → ℕ → List (List ℕ)
+  labels_in Source address = []
+  labels_in Listing address = labels_read origins latch address
+
+  abbrev pub pieces_in : Layout → ℕ → List ℕ → List (List ℕ)
+  pieces_in layout address bytes = labels_in layout address ++ line_in layout address bytes ∷ []
+
+  abbrev pub lines_of : Layout → List (ℕ × List ℕ) → List (List ℕ)
+  lines_of layout all = flat_map (λ start. pieces_in layout start.0 start.1) all
 
 -- ---- bytes, given by their addresses
 
@@ -83,8 +93,8 @@ module _ (byte : ℕ → ℕ) where
   mem_lines address count = rows address (stretch address count)
 
   -- so many instructions of the disassembly of all bytes from an address on; the labels among them don't count
-  unfoldable pub instruction_lines : (ℕ → List (List ℕ)) → Layout → ℕ → ℕ → List (List ℕ)
-  instruction_lines labels layout address count = lines_of labels layout (take count (starts Cdp1802 0 address (bytes_from address (0x10000 - address))))
+  unfoldable pub instruction_lines : Origins → Bool → Layout → ℕ → ℕ → List (List ℕ)
+  instruction_lines origins latch layout address count = lines_of origins latch layout (take count (starts Cdp1802 0 address (bytes_from address (0x10000 - address))))
 
 -- one of the bytes of a stretch isn't what it was
 abbrev pub has_changed : ℕ → ℕ → (ℕ → ℕ) → (ℕ → ℕ) → Bool

@@ -1,5 +1,5 @@
 -- What the commands write on a board that runs any program, and where they leave it: a fold over the commands, whose state is the machine.
-use Rattle.std.specs.Prelude.{◌≡◌, ◌≤◌, ◌-◌, ℕ, if◌then◌else◌, Bool, List, [], ◌∷◌, ◌++◌, Result, Ok, Err, codes}
+use Rattle.std.specs.Prelude.{◌≡◌, ◌≤◌, ◌-◌, ℕ, if◌then◌else◌, Bool, List, [], ◌∷◌, ◌++◌, Result, Ok, Err, Some, codes}
 use Rattle.asm_core.specs.Origins.{Origins}
 use Rattle.machine.specs.Board.{Machine}
 use Rattle.machine.specs.Keys.{Event, held_at}
@@ -51,7 +51,7 @@ module _ (rom : List ℕ) (script : List Event) (limit : ℕ) where
   abbrev pub gone_lines : Origins → Running → Machine → List (List ℕ)
   gone_lines origins running b =
       ended_lines (comes_to running b) (comes running b).completed
-      (changing origins running b ++ completed_lines (run_on b) running (comes running b).moves)
+      (changing origins running b ++ completed_lines (Some origins) (run_on b) running (comes running b).moves)
 
   -- `step` writes the lines of the moves that it makes
   abbrev pub ran_lines : Origins → Running → Machine → List (List ℕ)

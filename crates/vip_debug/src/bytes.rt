@@ -8,10 +8,9 @@ ghost use Rattle.vip_byte.specs.HexText.{bytes_text, hex2};
 ghost use Rattle.vip_outside.specs.Sink.{PutAnswers};
 ghost use Rattle.vip_outside.specs.Pieces.{StreamAnswers};
 ghost use Rattle.std.specs.List.{flat_map};
-ghost use Rattle.asm_core.specs.Origins.{labels_read};
 ghost use Rattle.asm_listing.specs.Listing.{first_digits};
 ghost use Rattle.vip_debug.specs.BoardParts.{PutsLine, reads};
-ghost use Rattle.vip_debug.specs.BoardShown.{front_text, instruction_lines, labels_in, mem_lines, row, rows, stretch};
+ghost use Rattle.vip_debug.specs.BoardShown.{end_in, front_text, instruction_lines, labels_in, mem_lines, row, rows, stretch};
 
 use arrayvec::ArrayVec;
 use asm_core::{Origins, read_place};
@@ -132,6 +131,24 @@ fn put_before(into: &mut Buffer, layout: Layout, address: u16, bytes: &[u8])
     }
 }
 
+/// Appends what stands behind it: the source's line that gave these bytes, in a listing.
+fn put_behind(
+    into: &mut Buffer,
+    origins: &Origins,
+    latch: bool,
+    layout: Layout,
+    address: u16,
+    bytes: &[u8],
+)
+    requires room { HasRoom into.old.items 320 }
+    ensures items { into.new.items ≡ into.old.items ++ end_in origins.now latch layout address bytes.now }
+    ensures len { array_vec_len into.new ≤ array_vec_len into.old + 320 }
+{
+    if let Layout::Listing = layout {
+        origins.put_end(latch, address, bytes, into);
+    }
+}
+
 /// Puts the lines of the labels at the byte that an address reads, where a layout shows them.
 fn put_labels_in<O: Sink>(
     origins: &Origins,
@@ -140,7 +157,7 @@ fn put_labels_in<O: Sink>(
     address: u16,
     out: &mut O,
 ) -> Result<(), Failed>
-    ensures { StreamAnswers (labels_in (labels_read origins.now latch) layout address) (O.meaning out.old) (O.meaning out.new) result }
+    ensures { StreamAnswers (labels_in origins.now latch layout address) (O.meaning out.old) (O.meaning out.new) result }
 {
     match layout {
         Layout::Source => Ok(()),
@@ -156,7 +173,7 @@ fn put_instruction<O: Sink>(
     layout: Layout,
     out: &mut O,
 ) -> Result<u8, Failed>
-    ensures { PutsLine (labels_read origins.now memory.now.latch) layout (reads memory.now) address (O.meaning out.old) (O.meaning out.new) result }
+    ensures { PutsLine origins.now memory.now.latch layout (reads memory.now) address (O.meaning out.old) (O.meaning out.new) result }
 {
     let three = [
         memory.read(address),
@@ -166,10 +183,14 @@ fn put_instruction<O: Sink>(
     let have = (END - u32::from(address)).min(3);
     let mut line = ArrayVec::new();
     let shown = one_line(three, have as u8, address, &mut line);
+    let bytes = &three[..usize::from(shown)];
+    let latch = memory.latch_set();
     let mut text = Buffer::new();
-    put_before(&mut text, layout, address, &three[..usize::from(shown)]);
+    put_before(&mut text, layout, address, bytes);
     put(&mut text, line.as_slice());
-    put_labels_in(origins, memory.latch_set(), layout, address, out)?;
+    put_behind(&mut text, origins, latch, layout, address, bytes);
+    put(&mut text, b"\n");
+    put_labels_in(origins, latch, layout, address, out)?;
     out.put(text.as_slice())?;
     Ok(shown)
 }
@@ -183,7 +204,7 @@ pub fn put_instructions<O: Sink>(
     layout: Layout,
     out: &mut O,
 ) -> Result<(), Failed>
-    ensures { StreamAnswers (instruction_lines (reads memory.now) (labels_read origins.now memory.now.latch) layout address count) (O.meaning out.old) (O.meaning out.new) result }
+    ensures { StreamAnswers (instruction_lines (reads memory.now) origins.now memory.now.latch layout address count) (O.meaning out.old) (O.meaning out.new) result }
 {
     let mut at = u32::from(address);
     for _line in 0..count {

@@ -5,9 +5,9 @@ ghost use Rattle.arrayvec.specs.ArrayVec.{array_vec_len};
 ghost use Rattle.vip_byte.specs.Room.{HasRoom};
 ghost use Rattle.machine.specs.Memory.{read};
 ghost use Rattle.vip_outside.specs.Pieces.{StreamAnswers};
-ghost use Rattle.asm_core.specs.Origins.{labels_over};
+ghost use Rattle.asm_core.specs.Origins.{labels_over, source_end};
 ghost use Rattle.vip_debug.specs.BoardParts.{clear_reads};
-ghost use Rattle.vip_debug.specs.Code.{byte_text, code_line, code_lines, code_text, opcode_text};
+ghost use Rattle.vip_debug.specs.Code.{byte_text, code_bytes, code_line, code_lines, code_text, opcode_text};
 
 use asm_core::Origins;
 use chip8_words::opcode_words;
@@ -51,18 +51,20 @@ fn put_byte(into: &mut Buffer, byte: u8)
     put(into, &hex2(byte));
 }
 
-/// Appends the opcode at an address, or the last byte.
-fn put_code_at(into: &mut Buffer, memory: &Memory, address: u16)
-    requires { HasRoom into.old.items 20 }
-    ensures items { into.new.items ≡ into.old.items ++ code_text (clear_reads memory.now) address }
-    ensures len { array_vec_len into.new ≤ array_vec_len into.old + 20 }
+/// Appends the opcode at an address, or the last byte, and the source's line that gave it.
+fn put_code_at(into: &mut Buffer, memory: &Memory, origins: &Origins, address: u16)
+    requires { HasRoom into.old.items 340 }
+    ensures items { into.new.items ≡ into.old.items ++ code_text (clear_reads memory.now) address ++ source_end origins.now false address (code_bytes (clear_reads memory.now) address) }
+    ensures len { array_vec_len into.new ≤ array_vec_len into.old + 340 }
 {
     let first = read_clear(memory, address);
     if address == LAST {
         put_byte(into, first);
+        origins.put_end(false, address, &[first], into);
     } else {
         let second = read_clear(memory, address + 1);
         put_opcode(into, u16::from(first) * 256 + u16::from(second));
+        origins.put_end(false, address, &[first, second], into);
     }
 }
 
@@ -73,12 +75,12 @@ fn put_line<O: Sink>(
     address: u16,
     out: &mut O,
 ) -> Result<(), Failed>
-    ensures { StreamAnswers (labels_over origins.now address ++ code_line (clear_reads memory.now) address ∷ []) (O.meaning out.old) (O.meaning out.new) result }
+    ensures { StreamAnswers (labels_over origins.now address ++ code_line (clear_reads memory.now) origins.now address ∷ []) (O.meaning out.old) (O.meaning out.new) result }
 {
     let mut text = Buffer::new();
     put(&mut text, &hex4(address));
     put(&mut text, b" ");
-    put_code_at(&mut text, memory, address);
+    put_code_at(&mut text, memory, origins, address);
     put(&mut text, b"\n");
     put_labels_at(origins, address, out)?;
     out.put(text.as_slice())
@@ -92,7 +94,7 @@ pub fn put_code<O: Sink>(
     count: u32,
     out: &mut O,
 ) -> Result<(), Failed>
-    ensures { StreamAnswers (code_lines (clear_reads memory.now) (labels_over origins.now) address count) (O.meaning out.old) (O.meaning out.new) result }
+    ensures { StreamAnswers (code_lines (clear_reads memory.now) origins.now address count) (O.meaning out.old) (O.meaning out.new) result }
 {
     let most = (u32::from(LAST - address) + 2) / 2;
     for k in 0..count.min(most) {

@@ -1,6 +1,6 @@
 //! A machine that runs a game, as what the commands run that speak of the machine alone.
 
-ghost use Rattle.std.specs.Prelude.{◌≡◌, ◌≤◌, true};
+ghost use Rattle.std.specs.Prelude.{◌≡◌, ◌≤◌, None, true};
 ghost use Rattle.vip_relation.specs.Follows.{Follows};
 ghost use Rattle.vip_debug.specs.Commands.{came};
 ghost use Rattle.vip_debug.specs.BoardParts.{Arrives, HasMoved, IsShown};
@@ -51,8 +51,8 @@ pub fn run_game(vip: &mut Vip, running: Running, limit: Limit, change: &mut Chan
     requires within { vip.old.board.machine.cycle ≤ limit }
     ensures comes { let r = run_at vip.old vip.old.moves in Arrives limit r (came r limit running) vip.new.board result }
     ensures moved { HasMoved Leads (came (run_at vip.old vip.old.moves) limit running).moves vip.old vip.new }
-    ensures shown { let r = run_at vip.old vip.old.moves in result ≡ true → IsShown running r (came r limit running).moves change.new }
+    ensures shown { let r = run_at vip.old vip.old.moves in result ≡ true → IsShown None running r (came r limit running).moves change.new }
 {
     let mut game = Game { vip };
-    go(&mut game, running, limit, change)
+    go(&mut game, running, limit, None, change)
 }

@@ -8,6 +8,6 @@ use vip_text::TraceColumns;
 pub struct Looks {
     /// What the lines of dispatch points have besides the states; `state` has their time always.
     pub columns: TraceColumns,
-    /// What the source gave, whose labels stand before what is shown of their bytes.
+    /// What the source gave, whose labels stand before what is shown of their bytes, and its lines, where they are told, behind it.
     pub origins: Origins,
 }

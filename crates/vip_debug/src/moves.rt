@@ -1,6 +1,9 @@
 //! The commands that make moves, whatever runs on the board.
 
-ghost use Rattle.std.specs.Prelude.{◌≡◌, ◌<◌, ◌≤◌, ◌↔◌, nat_le, true};
+ghost use Rattle.std.specs.Prelude.{◌≡◌, ◌<◌, ◌≤◌, ◌↔◌, ◌++◌, ◌∷◌, [], nat_le, option_map, true};
+ghost use Rattle.vip_board.specs.Seen.{held_by};
+ghost use Rattle.vip_program.specs.Lines.{line_of};
+ghost use Rattle.vip_debug.specs.Answered.{move_end};
 ghost use Rattle.vip_cpu.specs.declared.cpu.Phase.{Phase};
 ghost use Rattle.vip_debug.specs.TargetRun.{Makes, Rests, run_from};
 ghost use Rattle.vip_debug.specs.Commands.{after_steps, at_address, at_change, at_cycle, came, starts_at};
@@ -10,9 +13,10 @@ use crate::bytes::{Stretch, read_stretch};
 use crate::sought::Sought;
 use crate::target::Target;
 use crate::watched::Watched;
+use asm_core::Origins;
 use vip_board::{Board, Moved, Stops};
-use vip_byte::Buffer;
-use vip_program::{move_text, next_place};
+use vip_byte::{Buffer, MOST_CYCLE, put};
+use vip_program::{move_text, next_place, put_line_end};
 use vip_text::Limit;
 use vip_words::Running;
 
@@ -117,20 +121,36 @@ impl Change {
     }
 }
 
+/// Writes the line that a board's next move has alone into an empty buffer, with the source's line that gave it where a source tells. The board is at a
+/// boundary.
+fn write_move(board: &Board, told: Option<&Origins>, into: &mut Buffer)
+    requires boundary { board.now.phase ≡ Phase.Boundary }
+    requires cycle { board.now.machine.cycle ≤ MOST_CYCLE }
+    requires empty { into.old.items ≡ [] }
+    ensures { into.new.items ≡ line_of board.now.rom (held_by board.now) (board.now.machine ∷ []) ++ move_end (option_map (λ origins. origins.now) told.entry) board.now.rom board.now.machine }
+{
+    move_text(board, into);
+    match told {
+        Some(origins) => put_line_end(board, origins, into),
+        None => put(into, b"\n"),
+    }
+}
+
 /// Makes at least one move, and moves until one of so many bytes from an address on has changed, up to the limit and the end of the run.
-/// Answers whether one has; what shows it is then in `change`.
+/// Answers whether one has; what shows it is then in `change`, with what a source tells of the move.
 fn move_to_change<T: Target>(
     target: &mut T,
     address: u16,
     count: u32,
     limit: Limit,
+    told: Option<&Origins>,
     change: &mut Change,
 ) -> bool
     requires boundary { (T.seen target.old).phase ≡ Phase.Boundary }
     requires within { (T.seen target.old).machine.cycle ≤ limit }
     ensures comes { let r = run_from (T.ends target.old) (T.seen target.old) in Arrives limit r (at_change r limit address count) (T.seen target.new) result }
     ensures moved { let r = run_from (T.ends target.old) (T.seen target.old) in HasMoved T.leads (at_change r limit address count).moves target.old target.new }
-    ensures shown { let r = run_from (T.ends target.old) (T.seen target.old) in result ≡ true → IsChange r address count (at_change r limit address count).moves change.new }
+    ensures shown { let r = run_from (T.ends target.old) (T.seen target.old) in result ≡ true → IsChange (option_map (λ origins. origins.now) told.entry) r address count (at_change r limit address count).moves change.new }
 {
     read_stretch(target.board().memory(), address, count, &mut change.before);
     let watched = Watched { address, count };
@@ -143,7 +163,7 @@ fn move_to_change<T: Target>(
         }
         change.place = next_place(target.board());
         change.line.clear();
-        move_text(target.board(), &mut change.line);
+        write_move(target.board(), told, &mut change.line);
         if let Moved::End = target.one_move(limit) {
             return false;
         }
@@ -156,13 +176,19 @@ fn move_to_change<T: Target>(
 }
 
 /// Runs a board as a command says, up to the limit and the end of its run. Answers whether the command is completed; what shows it then besides
-/// the board is in `change`.
-pub fn go<T: Target>(target: &mut T, running: Running, limit: Limit, change: &mut Change) -> bool
+/// the board is in `change`, with what a source tells of a move.
+pub fn go<T: Target>(
+    target: &mut T,
+    running: Running,
+    limit: Limit,
+    told: Option<&Origins>,
+    change: &mut Change,
+) -> bool
     requires boundary { (T.seen target.old).phase ≡ Phase.Boundary }
     requires within { (T.seen target.old).machine.cycle ≤ limit }
     ensures comes { let r = run_from (T.ends target.old) (T.seen target.old) in Arrives limit r (came r limit running) (T.seen target.new) result }
     ensures moved { let r = run_from (T.ends target.old) (T.seen target.old) in HasMoved T.leads (came r limit running).moves target.old target.new }
-    ensures shown { let r = run_from (T.ends target.old) (T.seen target.old) in result ≡ true → IsShown running r (came r limit running).moves change.new }
+    ensures shown { let r = run_from (T.ends target.old) (T.seen target.old) in result ≡ true → IsShown (option_map (λ origins. origins.now) told.entry) running r (came r limit running).moves change.new }
 {
     match running {
         Running::Step(moves) => make_moves(target, moves, limit),
@@ -171,6 +197,8 @@ pub fn go<T: Target>(target: &mut T, running: Running, limit: Limit, change: &mu
             cycle <= limit.cycles()
         }
         Running::At(address) => move_to_address(target, address, limit),
-        Running::Watch(address, count) => move_to_change(target, address, count, limit, change),
+        Running::Watch(address, count) => {
+            move_to_change(target, address, count, limit, told, change)
+        }
     }
 }

@@ -1,6 +1,6 @@
 //! The debugger's commands on a board that runs any program.
 
-ghost use Rattle.std.specs.Prelude.{◌≡◌, ◌≤◌, ◌++◌, [], true};
+ghost use Rattle.std.specs.Prelude.{◌≡◌, ◌≤◌, ◌++◌, [], Some, true};
 ghost use Rattle.vip_cpu.specs.declared.cpu.Phase.{Phase};
 ghost use Rattle.vip_outside.specs.Sink.{PutAnswers};
 ghost use Rattle.vip_outside.specs.Pieces.{StreamAnswers};
@@ -59,14 +59,20 @@ impl Target for Program<'_> {
 
 /// Runs a board as a command says, up to the limit and the end of its run. Answers whether the command is completed; what shows it then besides
 /// the board is in `change`.
-fn run_program(board: &mut Board, running: Running, limit: Limit, change: &mut Change) -> bool
+fn run_program(
+    board: &mut Board,
+    origins: &Origins,
+    running: Running,
+    limit: Limit,
+    change: &mut Change,
+) -> bool
     requires boundary { board.old.phase ≡ Phase.Boundary }
     requires within { board.old.machine.cycle ≤ limit }
     ensures comes { let r = run_from sleeps board.old in Arrives limit r (came r limit running) board.new result }
-    ensures shown { let r = run_from sleeps board.old in result ≡ true → IsShown running r (came r limit running).moves change.new }
+    ensures shown { let r = run_from sleeps board.old in result ≡ true → IsShown (Some origins.now) running r (came r limit running).moves change.new }
 {
     let mut program = Program { board };
-    go(&mut program, running, limit, change)
+    go(&mut program, running, limit, Some(origins), change)
 }
 
 /// Puts what is said of a processor that sleeps behind the IDL at an address.
@@ -138,7 +144,7 @@ fn put_going<O: Sink>(
     ensures { let s = board.old in OneAnswers limit (gone_lines s.rom s.script limit origins.now running) (comes_to s.rom s.script limit running) s board.new (O.meaning out.old) (O.meaning out.new) result }
 {
     let mut change = Change::new();
-    let completed = run_program(board, running, limit, &mut change);
+    let completed = run_program(board, origins, running, limit, &mut change);
     match ending(board) {
         ProgramEnd::Idle(address) => put_idle(address, out),
         ProgramEnd::AtLimit if completed => put_gone(board, origins, running, &change, out),
@@ -184,7 +190,8 @@ fn run_command<O: Sink>(
 }
 
 /// Runs commands on a board that runs any program, and puts their answers, each line as one piece: before an answer the line that echoes its command,
-/// if it has one, and before the line of an instruction those of its labels. Answers whether the processor sleeps where they leave the board, and
+/// if it has one, before the line of an instruction those of its labels, and at its end the source's line that gave its bytes, where the source is told
+/// and they are unchanged. Answers whether the processor sleeps where they leave the board, and
 /// behind which IDL. The board is at a boundary, before and after.
 ///
 /// No move ends after the limit, and none is made from where the processor idles with the display off. A put that fails ends the run. No memory

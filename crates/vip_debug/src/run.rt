@@ -5,7 +5,7 @@ ghost use Rattle.vip_outside.specs.Sink.{PutAnswers};
 ghost use Rattle.vip_outside.specs.Pieces.{StreamAnswers};
 ghost use Rattle.chip8_lang.specs.View.{view_at};
 ghost use Rattle.vip_relation.specs.Follows.{Follows};
-ghost use Rattle.vip_text.specs.Traces.{trace_line};
+ghost use Rattle.vip_text.specs.Traces.{told_line};
 ghost use Rattle.vip_debug.specs.Answers.{DebugAnswers, begun, pieces, place_of, place_with, ran, running_lines, seeking_lines, sought, stop_text, told};
 ghost use Rattle.vip_debug.specs.Parts.{Makes, TellsPresent};
 
@@ -20,7 +20,7 @@ use chip8_lang::StopRecord;
 use vip_byte::Buffer;
 use vip_outside::{Failed, Sink};
 use vip_relation::Vip;
-use vip_text::{Limit, TraceColumns, trace_text};
+use vip_text::{Limit, told_text};
 use vip_words::{Command, Commands, Running, Seeking, Telling};
 
 /// How the commands ended.
@@ -44,13 +44,13 @@ fn put_stop<O: Sink>(stop: &StopRecord, out: &mut O) -> Result<(), Failed>
 }
 
 /// Puts the record of the dispatch point at which the board is, and which was met last.
-fn put_point<O: Sink>(vip: &Vip, columns: TraceColumns, out: &mut O) -> Result<(), Failed>
+fn put_point<O: Sink>(vip: &Vip, looks: &Looks, out: &mut O) -> Result<(), Failed>
     requires { TellsPresent vip.now }
-    ensures { PutAnswers (trace_line columns (view_at vip.now.edition vip.now.board.machine)) (O.meaning out.old) (O.meaning out.new) result }
+    ensures { PutAnswers (told_line looks.now.origins looks.now.columns (view_at vip.now.edition vip.now.board.machine)) (O.meaning out.old) (O.meaning out.new) result }
 {
     let mut text = Buffer::new();
     if let Some(view) = vip.last() {
-        trace_text(view, columns, &mut text);
+        told_text(view, looks.columns, &looks.origins, &mut text);
     }
     out.put(text.as_slice())
 }
@@ -95,7 +95,7 @@ fn put_seeking<O: Sink>(
     let completed = seek(vip, seeking, limit);
     match vip.stop() {
         Some(stop) => put_stop(&stop, out),
-        None if completed => put_point(vip, looks.columns, out),
+        None if completed => put_point(vip, looks, out),
         None => out.put(b"end\n"),
     }
 }
@@ -111,7 +111,7 @@ fn put_telling<O: Sink>(
     ensures { StreamAnswers (told looks.now (begun vip.now) telling (place_of vip.now)) (O.meaning out.old) (O.meaning out.new) result }
 {
     match telling {
-        Telling::State => put_state(vip, looks.columns, out),
+        Telling::State => put_state(vip, looks, out),
         Telling::Screen => put_screen(vip, out),
         Telling::Code(address, count) => put_code(
             vip.board().memory(),
@@ -146,7 +146,8 @@ fn run_command<O: Sink>(
 }
 
 /// Runs commands of a machine that runs a game, and puts their answers, each line as one piece, and a screen as one. Before the answer of a command
-/// comes the line that echoes it, if it has one, and before an instruction or opcode of a listing the lines of its labels.
+/// comes the line that echoes it, if it has one, and before an instruction or opcode of a listing the lines of its labels. A line of an opcode, or of an
+/// instruction of a listing, has at its end the source's line that gave its bytes, where the source is told and they are unchanged.
 ///
 /// No move ends after the limit, nor after the present cycle where that is later. Before the first command nothing is met but a file's own
 /// dispatch point. A command that makes a move meets every event up to its new cycle; `next` and `break` look for a dispatch point that isn't met

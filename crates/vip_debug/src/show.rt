@@ -3,22 +3,23 @@
 ghost use Rattle.vip_outside.specs.Sink.{PutAnswers};
 ghost use Rattle.vip_debug.specs.Shown.{screen_text, state_line};
 
+use crate::looks::Looks;
 use vip_byte::{Buffer, put};
 use vip_outside::{Failed, Sink};
 use vip_relation::Vip;
-use vip_text::{TraceColumns, trace_text};
+use vip_text::{TraceColumns, told_text};
 
-/// Puts the language state there, with these columns and its time, or that there is none.
-pub fn put_state<O: Sink>(vip: &Vip, columns: TraceColumns, out: &mut O) -> Result<(), Failed>
-    ensures { PutAnswers (state_line columns vip.now.last) (O.meaning out.old) (O.meaning out.new) result }
+/// Puts the language state there, in these looks with its time, or that there is none.
+pub fn put_state<O: Sink>(vip: &Vip, looks: &Looks, out: &mut O) -> Result<(), Failed>
+    ensures { PutAnswers (state_line looks.now.origins looks.now.columns vip.now.last) (O.meaning out.old) (O.meaning out.new) result }
 {
     let mut text = Buffer::new();
     let timed = TraceColumns {
         time: true,
-        ..columns
+        ..looks.columns
     };
     match vip.last() {
-        Some(view) => trace_text(view, timed, &mut text),
+        Some(view) => told_text(view, timed, &looks.origins, &mut text),
         None => put(&mut text, b"none\n"),
     }
     out.put(text.as_slice())

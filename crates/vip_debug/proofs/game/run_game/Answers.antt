@@ -1,4 +1,4 @@
-use Rattle.std.proofs.Common.{sym, subst}
+use Rattle.std.proofs.Common.{None, sym, subst}
 use Rattle.vip_relation.specs.State.{VipState}
 use Rattle.vip_debug.specs.TargetRun.{Run}
 use Rattle.vip_debug.specs.Commands.{came}
@@ -24,5 +24,5 @@ returns-clause-moved c =
 
 pub returns-clause-shown : goal.returns-clause-shown
 returns-clause-shown c =
-    λ done. subst (λ (r : Run). IsShown c.args.running r (came r c.args.limit c.args.running).moves c.go.new.change)
+    λ done. subst (λ (r : Run). IsShown None c.args.running r (came r c.args.limit c.args.running).moves c.go.new.change)
     (run-here c.args.vip.now c.requires.follows) (c.go.ensures.shown done)

@@ -1,17 +1,17 @@
-use Rattle.std.proofs.Common.{◌≡◌, ◌⊎◌, inl, inr, ℕ, ◌+◌, ◌-◌, ◌<◌, ◌≤◌, ◌∙◌, ◌∷◌, [], Bool, true, false, refl, sym, ap, ap₂, subst, arith, not, bytes_eq}
+use Rattle.std.proofs.Common.{◌≡◌, ◌⊎◌, inl, inr, ℕ, ◌+◌, ◌-◌, ◌<◌, ◌≤◌, ◌∙◌, ◌∷◌, [], Bool, true, false, refl, sym, ap, ap₂, subst, arith, not, bytes_eq, option_map}
 use Rattle.std.proofs.lemmas.Bool.{cases_lt}
 use Rattle.vip_byte.specs.declared.number.TheConstants.{MOST_CYCLE}
 use Rattle.vip_board.specs.Seen.{Seen, contents_of, held_by}
 use Rattle.vip_board.specs.Moves.{moved_by, StartsInstruction}
 use Rattle.machine.specs.Board.{case_of, length_of}
-use Rattle.machine.specs.Keys.{held_at}
 use Rattle.machine.proofs.Runs.{cycle-move, later-move}
 use Rattle.vip_debug.specs.TargetRun.{run_from, state_of}
 use Rattle.vip_debug.specs.BoardShown.{stretch, has_changed}
 use Rattle.vip_debug.specs.Commands.{bytes_at}
 use Rattle.vip_debug.specs.Watching.{may_change}
 use Rattle.vip_debug.specs.declared.watched.Watched.{Watched}
-use Rattle.vip_program.specs.Lines.{line_of, place_in}
+use Rattle.vip_program.specs.Lines.{place_in}
+use Rattle.vip_debug.specs.Answered.{move_line}
 use Rattle.vip_debug.proofs.TargetMoving.{place-here, gone-first, gone-smaller, one-move, some-moves, seeking-first, seeking-next, gone-on, same-between, same-now, finds, finds-moved, finds-at, finds-none, none-moved, stretch-here, line-here}
 use Rattle.vip_debug.proofs.moves.move_to_change.Goals as goal
 
@@ -91,10 +91,11 @@ loop-limit-preserved-then-not-may_change_next g c =
 pub one_move-requires : goal.one_move-requires
 one_move-requires g c = record { boundary = c.loop-limit.invariant.seeking.gone.going.stands.phase }
 
-pub move_text-requires : goal.move_text-requires
-move_text-requires g c =
+pub write_move-requires : goal.write_move-requires
+write_move-requires g c =
     let here = c.loop-limit.invariant.seeking.here in
     record {
+      boundary = ap (λ (s : Seen). s.phase) c.board-in-loop-limit-4.ensures ∙ c.loop-limit.invariant.seeking.gone.going.stands.phase;
       cycle = subst (λ (s : Seen). s.machine.cycle ≤ MOST_CYCLE) (sym c.board-in-loop-limit-4.ensures) (omega (arith, here, c.cycles.ensures.value, c.cycles.ensures.bound));
       empty = c.clear.ensures;
     }
@@ -162,11 +163,12 @@ returns-then-ne-clause-shown g c =
     (λ k. has_changed c.args.address c.args.count (bytes_at r 0) (bytes_at r k)) c.args.target.now c.loop-limit.target c.one_move.new.self inv 1 m
     (λ k some below. absurd (omega (arith, some, below)))
     (sym here ∙ sym c.ne.ensures ∙ c.if-ne.true) in
-    let line = line-here r _ inv.gone.going.stands refl _ c.board-in-loop-limit-4.ensures in
+    let told = option_map (λ origins. origins.now) c.args.told in
+    let line = line-here r _ inv.gone.going.stands refl _ c.board-in-loop-limit-4.ensures told in
     let one : inv.moves ≡ inv.moves + 1 - 1 = omega arith in
     let last = one ∙ ap (λ k. k - 1) (sym at) in
     λ done. record {
-      line = c.move_text.ensures.line ∙ line ∙ ap (λ k. line_of r.rom (held_at r.script) (state_of r k ∷ [])) last;
+      line = c.write_move.ensures ∙ line ∙ ap (λ k. move_line told r (state_of r k)) last;
       before = c.loop-limit.invariant.before;
       after = c.read_stretch-in-loop-limit.ensures ∙ after ∙ ap (λ k. stretch (bytes_at r k) c.args.address c.args.count) (sym at);
       place =

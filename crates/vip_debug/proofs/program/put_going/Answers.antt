@@ -1,4 +1,4 @@
-use Rattle.std.proofs.Common.{◌≡◌, ◌++◌, ◌∙◌, refl, sym, ap₂, subst}
+use Rattle.std.proofs.Common.{◌≡◌, ◌++◌, ◌∙◌, Some, refl, sym, ap₂, subst}
 use Rattle.vip_outside.specs.Pieces.{StreamAnswers}
 use Rattle.vip_outside.proofs.PiecesLemmas.{StreamAnswers-one}
 use Rattle.vip_program.specs.Trace.{sleeps}
@@ -11,7 +11,7 @@ use Rattle.vip_debug.proofs.Sleeping.{ended-idle, ended-goes, ended-early, one-a
 use Rattle.vip_debug.proofs.program.put_going.Goals as goal
 
 pub put_gone-requires : goal.put_gone-requires
-put_gone-requires g c = fits c.args.running _ _ _ (c.run_program-completed.ensures.shown c.if-completed.true)
+put_gone-requires g c = fits (Some c.args.origins.now) c.args.running _ _ _ (c.run_program-completed.ensures.shown c.if-completed.true)
 
 pub returns-in-Idle : goal.returns-in-Idle
 returns-in-Idle g c =
@@ -19,7 +19,7 @@ returns-in-Idle g c =
     let r = run_from sleeps s in
     let to = came r c.args.limit c.args.running in
     let a = c.run_program-completed.ensures.comes in
-    let lines = changing s.rom s.script c.args.limit c.args.origins.now c.args.running s.machine ++ completed_lines r c.args.running to.moves in
+    let lines = changing s.rom s.script c.args.limit c.args.origins.now c.args.running s.machine ++ completed_lines (Some c.args.origins.now) r c.args.running to.moves in
     let there : c.run_program-completed.new.board.machine ≡ state_of r to.moves = a.machine in
     let same = ap₂ (λ b done. ended_lines b done lines) there a.completed in
     one-answers c.args.limit (gone_lines s.rom s.script c.args.limit c.args.origins.now c.args.running) (comes_to s.rom s.script c.args.limit c.args.running) s
@@ -35,7 +35,7 @@ returns-in-AtLimit g c =
     let r = run_from sleeps s in
     let to = came r c.args.limit c.args.running in
     let a = c.run_program-completed.ensures.comes in
-    let lines = changing s.rom s.script c.args.limit c.args.origins.now c.args.running s.machine ++ completed_lines r c.args.running to.moves in
+    let lines = changing s.rom s.script c.args.limit c.args.origins.now c.args.running s.machine ++ completed_lines (Some c.args.origins.now) r c.args.running to.moves in
     let there : c.run_program-completed.new.board.machine ≡ state_of r to.moves = a.machine in
     let same = ap₂ (λ b done. ended_lines b done lines) there a.completed in
     one-answers c.args.limit (gone_lines s.rom s.script c.args.limit c.args.origins.now c.args.running) (comes_to s.rom s.script c.args.limit c.args.running) s
@@ -43,7 +43,7 @@ returns-in-AtLimit g c =
     (subst (λ ps. StreamAnswers ps (g.O.Sink.meaning c.args.out.now) (g.O.Sink.meaning c.put_gone.new.out) c.put_gone.result)
     (ap₂ (λ first more. first ++ more)
     (labels-completed c.args.origins.now s.rom s.script c.args.limit c.args.running s.machine _ (c.run_program-completed.ensures.shown c.if-completed.true))
-    (lines-completed r c.args.limit to _ _ a c.args.running _ _ refl (c.run_program-completed.ensures.shown c.if-completed.true))
+    (lines-completed r c.args.limit to _ _ a (Some c.args.origins.now) c.args.running _ _ refl (c.run_program-completed.ensures.shown c.if-completed.true))
     ∙ ended-goes c.run_program-completed.new.board.machine c.run_program-completed.result lines (sym c.in-AtLimit.is ∙ c.ending.ensures) c.if-completed.true
     ∙ same) c.put_gone.ensures)
     (stands-there c.args.limit s to _ _ a)
@@ -54,7 +54,7 @@ returns-in-AtLimit-2 g c =
     let r = run_from sleeps s in
     let to = came r c.args.limit c.args.running in
     let a = c.run_program-completed.ensures.comes in
-    let lines = changing s.rom s.script c.args.limit c.args.origins.now c.args.running s.machine ++ completed_lines r c.args.running to.moves in
+    let lines = changing s.rom s.script c.args.limit c.args.origins.now c.args.running s.machine ++ completed_lines (Some c.args.origins.now) r c.args.running to.moves in
     let there : c.run_program-completed.new.board.machine ≡ state_of r to.moves = a.machine in
     let same = ap₂ (λ b done. ended_lines b done lines) there a.completed in
     one-answers c.args.limit (gone_lines s.rom s.script c.args.limit c.args.origins.now c.args.running) (comes_to s.rom s.script c.args.limit c.args.running) s

@@ -1,4 +1,4 @@
-use Rattle.std.proofs.Common.{◌∙◌, sym, subst}
+use Rattle.std.proofs.Common.{◌∙◌, None, sym, subst}
 use Rattle.vip_outside.specs.Pieces.{StreamAnswers}
 use Rattle.vip_outside.proofs.PiecesLemmas.{StreamAnswers-one}
 use Rattle.vip_debug.specs.Answered.{completed_lines}
@@ -20,13 +20,13 @@ returns-in-Some-clause-lines g c =
     let makes = makes-came _ _ _ c.board-board.ensures.follows c.args.running _ c.run_game-completed.ensures.moved c.run_game-completed.ensures.comes in
     let there = ran (begun old) c.args.limit c.args.running (place_of old) in
     let r = run_at (begun old) old.moves in
-    let lines = completed_lines r c.args.running (came r c.args.limit c.args.running).moves in
+    let lines = completed_lines None r c.args.running (came r c.args.limit c.args.running).moves in
     subst (λ pieces. StreamAnswers pieces (g.O.Sink.meaning c.args.out.now) (g.O.Sink.meaning c.put_stop.new.out) c.put_stop.result)
     (writes-stop old _ c.board-board.ensures.follows there _ makes.same makes.place c.run_game-completed.ensures.comes.completed lines c.in-Some.stop
     (sym c.in-Some.is ∙ c.stop.ensures)) (StreamAnswers-one _ _ _ _ c.put_stop.ensures)
 
 pub put_completed-requires : goal.put_completed-requires
-put_completed-requires g c = fits c.args.running _ _ _ (c.run_game-completed.ensures.shown c.if-completed.true)
+put_completed-requires g c = fits None c.args.running _ _ _ (c.run_game-completed.ensures.shown c.if-completed.true)
 
 pub returns-in-None-clause-makes : goal.returns-in-None-clause-makes
 returns-in-None-clause-makes g c =
@@ -38,8 +38,8 @@ returns-in-None-clause-lines g c =
     let makes = makes-came _ _ _ c.board-board.ensures.follows c.args.running _ c.run_game-completed.ensures.moved c.run_game-completed.ensures.comes in
     let there = ran (begun old) c.args.limit c.args.running (place_of old) in
     let r = run_at (begun old) old.moves in
-    let lines = completed_lines r c.args.running (came r c.args.limit c.args.running).moves in
-    let written = lines-completed r c.args.limit _ _ _ c.run_game-completed.ensures.comes c.args.running _ _ c.board-board.ensures.board
+    let lines = completed_lines None r c.args.running (came r c.args.limit c.args.running).moves in
+    let written = lines-completed r c.args.limit _ _ _ c.run_game-completed.ensures.comes None c.args.running _ _ c.board-board.ensures.board
     (c.run_game-completed.ensures.shown c.if-completed.true) in
     subst (λ pieces. StreamAnswers pieces (g.O.Sink.meaning c.args.out.now) (g.O.Sink.meaning c.put_completed.new.out) c.put_completed.result)
     (written ∙ writes-lines old _ c.board-board.ensures.follows there _ makes.same makes.place c.run_game-completed.ensures.comes.completed lines
@@ -55,7 +55,7 @@ returns-in-None-2-clause-lines g c =
     let makes = makes-came _ _ _ c.board-board.ensures.follows c.args.running _ c.run_game-completed.ensures.moved c.run_game-completed.ensures.comes in
     let there = ran (begun old) c.args.limit c.args.running (place_of old) in
     let r = run_at (begun old) old.moves in
-    let lines = completed_lines r c.args.running (came r c.args.limit c.args.running).moves in
+    let lines = completed_lines None r c.args.running (came r c.args.limit c.args.running).moves in
     subst (λ pieces. StreamAnswers pieces (g.O.Sink.meaning c.args.out.now) (g.O.Sink.meaning c.put.new.self) c.put.result)
     (writes-end old _ c.board-board.ensures.follows there _ makes.same makes.place c.run_game-completed.ensures.comes.completed lines
     (sym c.in-None.is ∙ c.stop.ensures) c.if-completed.false) (StreamAnswers-one _ _ _ _ c.put.ensures.answer)

@@ -1,5 +1,4 @@
 use Rattle.std.proofs.Common.{◌∙◌, ap, subst}
-use Rattle.asm_core.specs.Origins.{labels_over}
 use Rattle.vip_outside.specs.Pieces.{StreamAnswers}
 use Rattle.vip_debug.specs.BoardParts.{clear_reads}
 use Rattle.vip_debug.specs.Code.{code_lines}
@@ -22,7 +21,7 @@ returns-in-Screen g c =
 pub returns-in-Code : goal.returns-in-Code
 returns-in-Code g c =
     let memory = rw c.board.ensures.board at c.memory.ensures in
-    let lines = ap (λ m. code_lines (clear_reads m) (labels_over c.args.looks.now.origins) c.in-Code.address c.in-Code.count) memory in
+    let lines = ap (λ m. code_lines (clear_reads m) c.args.looks.now.origins c.in-Code.address c.in-Code.count) memory in
     rw c.in-Code.is
     (subst (λ pieces. StreamAnswers pieces (g.O.Sink.meaning c.args.out.now) (g.O.Sink.meaning c.put_code.new.out) c.put_code.result)
     (lines ∙ code-told c.args.looks.now c.args.vip.now c.requires c.in-Code.address c.in-Code.count) c.put_code.ensures)
