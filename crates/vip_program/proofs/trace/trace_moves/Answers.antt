@@ -9,22 +9,22 @@ ended end none piece line text behind makes empty is all = all ∙ ap (λ xs. te
 pub loop-made-preserved : goal.loop-made-preserved
 loop-made-preserved g c =
     tracing-next _ _ _ _ _ _ _ _ _ _ c.loop-made.invariant _ _ c.next_line-made.ensures.line
-    (ended _ _ _ _ _ _ c.put_line_end.ensures.items c.clear-end.ensures.items c.as_slice.ensures.value c.put.ensures.items) _ _ c.next_line-made.ensures.boundary
+    (ended _ _ _ _ _ _ c.put_line_end.ensures.items c.clear.ensures c.as_slice.ensures.value c.put.ensures.items) _ _ c.next_line-made.ensures.boundary
     (rw c.next_place-place.ensures at c.in_ok-put_labels.ensures)
-    (rw c.as_slice-2.ensures.value at c.in_ok-put.ensures.answer)
+    (rw c.as_slice-in-loop-made.ensures.value at c.in_ok-put.ensures.answer)
 
 pub returns-in_err-put_labels : goal.returns-in_err-put_labels
 returns-in_err-put_labels g c =
     fails-at-label _ _ _ _ _ _ _ _ _ _ c.loop-made.invariant _ _ c.next_line-made.ensures.line
-    (ended _ _ _ _ _ _ c.put_line_end.ensures.items c.clear-end.ensures.items c.as_slice.ensures.value c.put.ensures.items) _ _ c.from_residual.ensures.0
+    (ended _ _ _ _ _ _ c.put_line_end.ensures.items c.clear.ensures c.as_slice.ensures.value c.put.ensures.items) _ _ c.from_residual.ensures.0
     (rw c.next_place-place.ensures at c.in_err-put_labels.ensures)
 
 pub returns-in_err-put : goal.returns-in_err-put
 returns-in_err-put g c =
     fails-at _ _ _ _ _ _ _ _ _ _ c.loop-made.invariant _ _ c.next_line-made.ensures.line
-    (ended _ _ _ _ _ _ c.put_line_end.ensures.items c.clear-end.ensures.items c.as_slice.ensures.value c.put.ensures.items) _ _ _ c.from_residual-in_err-put.ensures.0
+    (ended _ _ _ _ _ _ c.put_line_end.ensures.items c.clear.ensures c.as_slice.ensures.value c.put.ensures.items) _ _ _ c.from_residual-in_err-put.ensures.0
     (rw c.next_place-place.ensures at c.in_ok-put_labels.ensures)
-    (rw c.as_slice-2.ensures.value at c.in_err-put.ensures.answer)
+    (rw c.as_slice-in-loop-made.ensures.value at c.in_err-put.ensures.answer)
 
 pub returns-else-goes_on : goal.returns-else-goes_on
 returns-else-goes_on g c =
