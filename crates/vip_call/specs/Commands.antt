@@ -6,13 +6,10 @@ use Rattle.chip8_lang.specs.declared.view.Edition.{Edition}
 use Rattle.chip8_lang.specs.Editions.{memory_end, memory_start, rows_of}
 use Rattle.chip8_lang.specs.Screen.{empty}
 use Rattle.chip8_lang.specs.State.{memory_byte}
-use Rattle.chip8_lang.specs.View.{view_of}
 use Rattle.vip_byte.specs.Text.{newline}
 use Rattle.vip_text.specs.Endings.{Ending}
 use Rattle.vip_text.specs.Endings.Ending.{AtLimit, AtStop}
 use Rattle.vip_text.specs.Screens.{screen_lines}
-use Rattle.vip_text.specs.Traces.{told_line}
-use Rattle.vip_text.specs.declared.trace.TraceColumns.{TraceColumns}
 use Rattle.std.specs.Option.{option_to_list}
 use Rattle.vip_words.specs.Spoken.{Spoken}
 use Rattle.vip_words.specs.declared.debug_commands.Command.{Command}
@@ -23,7 +20,7 @@ use Rattle.vip_words.specs.declared.debug_commands.Seeking.TheVariants.{Next, Br
 use Rattle.vip_words.specs.declared.debug_commands.Telling.TheVariants.{Code, Screen, State}
 use Rattle.vip_debug.specs.Code.{code_lines}
 use Rattle.vip_debug.specs.declared.looks.Looks.{Looks}
-use Rattle.vip_call.specs.Transcript.{Point, end_line, last_point, screen}
+use Rattle.vip_call.specs.Transcript.{Point, end_line, last_point, screen, traced}
 
 -- of the points of a run up to a limit, which ends so in cycle `over`; they are shown so
 module _ (e : Edition) (looks : Looks) (limit : ℕ) (points : List Point) (ending : Ending) (over : ℕ) where
@@ -43,10 +40,6 @@ module _ (e : Edition) (looks : Looks) (limit : ℕ) (points : List Point) (endi
   sought (Next n) t = slice_get (ahead t) (n - 1)
   sought (Break pc) t = find (λ p. p.state.pc == pc) (ahead t)
 
-  -- the line of a point, with the source's line that gave its opcode, where that is told
-  abbrev pub told : TraceColumns → Point → List ℕ
-  told columns p = told_line looks.origins columns (view_of e p.state p.cycle)
-
   -- they go to it, and write its line; where there is none they go to the limit, and name the end
   abbrev pub place_at : ℕ → Option Point → ℕ
   place_at t None = max t limit
@@ -54,12 +47,12 @@ module _ (e : Edition) (looks : Looks) (limit : ℕ) (points : List Point) (endi
 
   abbrev pub found_line : Option Point → List ℕ
   found_line None = end_line ending
-  found_line (Some p) = told looks.columns p
+  found_line (Some p) = traced e looks.origins looks.columns p
 
   -- `state` and `screen`, of the last point met
   abbrev pub state_text : Option Point → List ℕ
   state_text None = codes "none" ++ newline
-  state_text (Some p) = told (record looks.columns { time = true }) p
+  state_text (Some p) = traced e looks.origins (record looks.columns { time = true }) p
 
   abbrev pub screen_text : Option Point → List ℕ
   screen_text None = screen_lines empty (rows_of e)
