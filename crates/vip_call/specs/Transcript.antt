@@ -21,7 +21,7 @@ use Rattle.vip_text.specs.Screens.{picture_file, screen_lines}
 use Rattle.vip_text.specs.Stops.{stop_line}
 use Rattle.vip_text.specs.Summaries.{summary_line}
 use Rattle.asm_core.specs.Origins.{Origins}
-use Rattle.vip_text.specs.Traces.{told_line, trace_line}
+use Rattle.vip_text.specs.Traces.{told_line}
 use Rattle.vip_text.specs.declared.trace.TraceColumns.{TraceColumns}
 use Rattle.vip_show.specs.Output.{lit_in_rows}
 use Rattle.vip_show.specs.Profile.{profile_text}
@@ -87,10 +87,7 @@ last_point = last_or None
 -- ---- what is written
 
 module _ (e : Edition) where
-  abbrev pub line : TraceColumns → Point → List ℕ
-  line columns p = trace_line columns (view_of e p.state p.cycle)
-
-  -- with the source's line that gave the opcode, where it is told
+  -- the line of a point, with the source's line that gave the opcode, where it is told
   abbrev pub traced : Origins → TraceColumns → Point → List ℕ
   traced origins columns p = told_line origins columns (view_of e p.state p.cycle)
 
