@@ -134,6 +134,13 @@ module _ (isa : Isa) (source : List (List ℕ)) where
   faulty-not_none faulty none =
       let both : false ≡ true = sym (ap (λ (s : Seen). s.faulty) (seen_clean isa source (length source) (omega arith) none)) ∙ faulty in absurd (cc)
 
+  -- whether it has
+  pub has-faulty : (seen_at isa source (length source)).faulty ≡ true → has_fault_1 isa source ≡ true
+  has-faulty faulty = by_pass (λ e. e) (λ e. absurd (faulty-not_none faulty (no_fault_1 e)))
+
+  pub has-clean : NoFault (fault_1 isa source) (length source) → has_fault_1 isa source ≡ false
+  has-clean none = clean_1 none
+
   -- what is told of each line where pass 1 has a fault, and where it has none
   pub told-faulty : (seen_at isa source (length source)).faulty ≡ true → (found : List (Option Finding))
       → IsEachOf (told_1 isa source) (length source) found → AreTold isa source found

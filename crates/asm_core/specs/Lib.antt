@@ -12,5 +12,6 @@ pub mod Labels
 pub mod Origins
 pub mod Culprits
 pub mod Told
+pub mod Fixed
 pub mod Operands
 pub mod Surveys

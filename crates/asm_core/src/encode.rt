@@ -143,8 +143,8 @@ pub(crate) fn instruction(
     }
 }
 
-// The greatest number that a form takes, or 0 where it takes none.
-fn most_of(form: Form) -> u16
+/// The greatest number that a form takes, or 0 where it takes none.
+pub(crate) fn most_of(form: Form) -> u16
     ensures { result ≡ most_of form }
 {
     match form.operands() {

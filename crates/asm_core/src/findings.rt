@@ -4,17 +4,19 @@ ghost use Rattle.std.specs.Prelude.{◌≡◌, ◌≤◌, ◌<◌, ◌+◌, ◌+
 ghost use Rattle.asm_lex.specs.Lines.{Reads};
 ghost use Rattle.asm_lex.specs.Names.{Names, value_in};
 ghost use Rattle.asm_lex.specs.Notes.{note_in};
+ghost use Rattle.asm_core.specs.Fixed.{fixed_names};
 ghost use Rattle.asm_core.specs.Layout.{encoded};
 ghost use Rattle.asm_core.specs.Limits.{most_bytes};
 ghost use Rattle.asm_core.specs.Passes.{LaysOut, IsFound, line_plan, planned};
 ghost use Rattle.asm_core.specs.Sources.{source_lines};
-ghost use Rattle.asm_core.specs.Told.{label_if_name, guessed_label, with_colon, is_sure, sure_finding, finding_2, seen_at, given_names, kept_before, told_1, told_2, IsEachOf, AreTold, AreNoted, NothingTold, AgreesWithFaults};
+ghost use Rattle.asm_core.specs.Told.{label_if_name, guessed_label, with_colon, is_sure, sure_finding, finding_2, seen_at, given_names, has_fault_1, kept_before, told_1, told_2, IsEachOf, AreTold, AreNoted, NothingTold, AgreesWithFaults};
 ghost use Rattle.asm_core.specs.Surveys.{Learns, Guesses, Looks, HasNoLines, AddsFound, PutsLine};
 
 use crate::assembly::LinePlace;
 use crate::culprit::{culprit_1, culprit_2, large_number};
 use crate::encode::{Bytes, byte_count};
 use crate::fault::{AsmCause, AsmFault};
+use crate::fixed::fixed_names;
 use crate::layout::{LabelValue, Laid, encode_line, lay_out, origin_of, symbol_value};
 use crate::passes::Plan;
 use crate::source::next_line;
@@ -390,10 +392,12 @@ fn pass_2(alloc: Global, isa: Isa, text: &[u8], plan: &Plan) -> Result<Second, A
     Ok(Second { cells, findings })
 }
 
-/// What both passes find: what is told of each line, and, where nothing is told, where the lines stand and their bytes.
+/// What both passes find: what is told of each line, whether pass 2 waits for lines to be mended, and, where nothing is told, where the lines stand and
+/// their bytes.
 #[derive(Drop)]
 pub(crate) struct Found {
     pub told: Told,
+    pub waits: bool,
     pub plan: Plan,
     pub cells: Vec<Option<Cell>>,
 }
@@ -410,6 +414,7 @@ pub(crate) fn run_passes(
     ensures told { IfOk result (λ found. AreTold isa (source_lines text.now) found.told.findings.items) }
     ensures noted { IfOk result (λ found. with_notes ≡ true → AreNoted isa (source_lines text.now) found.told.notes.items) }
     ensures given { IfOk result (λ found. value_in found.plan.names ≡ given_names isa (source_lines text.now)) }
+    ensures waits { IfOk result (λ found. found.waits ≡ has_fault_1 isa (source_lines text.now)) }
     ensures made { IfOk result (λ found. NothingTold isa (source_lines text.now) →
         IsFound isa (source_lines text.now) (planned found.plan) found.cells.items) }
 {
@@ -417,12 +422,19 @@ pub(crate) fn run_passes(
     let First { told, faulty, plan } = first;
     if faulty {
         let cells = Vec::new(alloc);
-        return Ok(Found { told, plan, cells });
+        let waits = true;
+        return Ok(Found {
+            told,
+            waits,
+            plan,
+            cells,
+        });
     }
     let Second { cells, findings } = pass_2(alloc, isa, text, &plan)?;
     let notes = told.notes;
     Ok(Found {
         told: Told { findings, notes },
+        waits: false,
         plan,
         cells,
     })
@@ -433,8 +445,36 @@ pub(crate) fn run_passes(
 pub struct Checked {
     /// What is told of each line.
     pub told: Told,
+    /// Whether pass 2 waits for lines to be mended.
+    pub waits: bool,
     /// The names, those of faulty lines too, whose values then say nothing.
     pub names: Symbols,
+    /// The names whose values hang on no address.
+    pub fixed: Symbols,
+}
+
+fn tell(alloc: Global, isa: Isa, text: &[u8]) -> Result<Checked, AllocError>
+    requires { length text.now ≤ most_bytes }
+    ensures told { IfOk result (λ checked. AreTold isa (source_lines text.now) checked.told.findings.items) }
+    ensures noted { IfOk result (λ checked. AreNoted isa (source_lines text.now) checked.told.notes.items) }
+    ensures waits { IfOk result (λ checked. checked.waits ≡ has_fault_1 isa (source_lines text.now)) }
+    ensures given { IfOk result (λ checked. value_in checked.names ≡ given_names isa (source_lines text.now)) }
+    ensures fixed { IfOk result (λ checked. value_in checked.fixed ≡ fixed_names isa (source_lines text.now)) }
+{
+    let found = run_passes(alloc, isa, text, true)?;
+    let Found {
+        told,
+        waits,
+        plan,
+        cells: _,
+    } = found;
+    let fixed = fixed_names(alloc, isa, text, told.findings.as_slice())?;
+    Ok(Checked {
+        told,
+        waits,
+        names: plan.names,
+        fixed,
+    })
 }
 
 /// What is told of each line of a source of an instruction set of at most `MOST_BYTES` bytes: its first fault, or nothing, and an instruction in its
@@ -443,15 +483,14 @@ pub fn check(alloc: Global, isa: Isa, text: &[u8]) -> Result<Checked, AsmFault>
     requires { length text.now ≤ most_bytes }
     ensures told { IfOk result (λ checked. AreTold isa (source_lines text.now) checked.told.findings.items) }
     ensures noted { IfOk result (λ checked. AreNoted isa (source_lines text.now) checked.told.notes.items) }
+    ensures waits { IfOk result (λ checked. checked.waits ≡ has_fault_1 isa (source_lines text.now)) }
     ensures given { IfOk result (λ checked. value_in checked.names ≡ given_names isa (source_lines text.now)) }
+    ensures fixed { IfOk result (λ checked. value_in checked.fixed ≡ fixed_names isa (source_lines text.now)) }
     ensures agrees { AgreesWithFaults isa (source_lines text.now) }
     ensures memory { IfErr result (λ fault. fault ≡ AsmFault.NoMemory) }
 {
-    match run_passes(alloc, isa, text, true) {
-        Ok(found) => Ok(Checked {
-            told: found.told,
-            names: found.plan.names,
-        }),
+    match tell(alloc, isa, text) {
+        Ok(checked) => Ok(checked),
         Err(_) => Err(AsmFault::NoMemory),
     }
 }

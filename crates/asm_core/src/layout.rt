@@ -55,7 +55,7 @@ pub(crate) fn origin_of(isa: Isa) -> u32
 }
 
 /// The highest address of an instruction set's programs.
-fn last_of(isa: Isa) -> u16
+pub(crate) fn last_of(isa: Isa) -> u16
     ensures { result ≡ last_of isa }
 {
     match isa {

@@ -51,7 +51,12 @@ pub fn assemble(alloc: Global, isa: Isa, text: &[u8]) -> Result<Assembly, AsmFau
     let Ok(found) = run_passes(alloc, isa, text, false) else {
         return Err(AsmFault::NoMemory);
     };
-    let Found { told, plan, cells } = found;
+    let Found {
+        told,
+        waits: _,
+        plan,
+        cells,
+    } = found;
     if let Some(fault) = first_told(told.findings.as_slice()) {
         return Err(fault);
     }
