@@ -10,8 +10,8 @@
 //! the limit; `run_commands` puts exactly the pieces of `specs/Answers.antt`, up to the first put that fails, and leaves the board at the place
 //! that it says. That is a fold over the commands in terms of the defined run, from the place of the board on: the moves made and the events met,
 //! of which some may wait at its present state. `run_program_commands` says the same of any program (`specs/Programs.antt`). Bytes are those that
-//! the processor would read. No call takes memory. Commands behind a dispatch point answer as on a run that begins with a file of the machine there
-//! (`laws::goes_on_behind`).
+//! the processor would read; where the lines of a source are told, a line that shows bytes that it gave has the source's line at its end. No call takes
+//! memory. Commands behind a dispatch point answer as on a run that begins with a file of the machine there (`laws::goes_on_behind`).
 //!
 //! The commands and their answers are this project's format (`docs/FORMATS.md`).
 #![tactic(auto)]
