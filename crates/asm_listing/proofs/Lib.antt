@@ -2,6 +2,7 @@ pub mod Texts
 pub mod Ranges
 pub mod Dumps
 pub mod Listings
+pub mod Counted
 pub mod Raws
 pub mod Starts
 pub mod Plain

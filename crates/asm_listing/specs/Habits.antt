@@ -95,7 +95,7 @@ words =
     row [] (Words (codes "JMP" ∷ codes "JUMP" ∷ codes "BRA" ∷ codes "GOTO" ∷ [])) [] (codes "no instruction of the 1802: BR, or LBR to another page") ∷
     row [] (Words (codes "MOV" ∷ codes "MVI" ∷ codes "LXI" ∷ codes "STA" ∷ codes "LDAA" ∷ codes "STAA" ∷ codes "PUSH" ∷ codes "POP" ∷ codes "CMP" ∷ codes "CPI" ∷ codes "CLR" ∷ codes "NOP2" ∷ [])) [] (codes "no instruction of the 1802") ∷
     row [] (Words (codes "RLDI" ∷ codes "RLXA" ∷ codes "RSXD" ∷ codes "RNX" ∷ codes "DBNZ" ∷ codes "LDC" ∷ codes "GEC" ∷ codes "STPC" ∷ codes "DTC" ∷ codes "STM" ∷ codes "ETQ" ∷ codes "XIE" ∷ codes "XID" ∷ codes "CIE" ∷ codes "CID" ∷ [])) [] (codes "an instruction of the 1804, and none of the 1802") ∷
-    row [] (Words (codes "CLS" ∷ codes "SYS" ∷ codes "JP" ∷ codes "SE" ∷ codes "SNE" ∷ codes "LD" ∷ codes "SUBN" ∷ codes "RND" ∷ codes "DRW" ∷ codes "SKNP" ∷ [])) [] (codes "a word of CHIP-8, for --chip8") ∷
+    row [] (Words (codes "CLS" ∷ codes "SYS" ∷ codes "JP" ∷ codes "SE" ∷ codes "SNE" ∷ codes "LD" ∷ codes "SUBN" ∷ codes "RND" ∷ codes "DRW" ∷ codes "SKNP" ∷ [])) [] (codes "a word of CHIP-8: --chip8 reads it, as a run by --asm does") ∷
     row [] (Words (codes "CPU" ∷ codes "TITLE" ∷ codes "END" ∷ codes "LIST" ∷ codes "NOLIST" ∷ codes "EJECT" ∷ codes "PRINT" ∷ [])) [] (codes "delete the line") ∷
     row [] (Words (codes "INCLUDE" ∷ codes "#INCLUDE" ∷ [])) [] (codes "put the lines of that file here") ∷
     row [] (Words (codes "MACRO" ∷ codes "ENDM" ∷ codes "IF" ∷ codes "ELSE" ∷ codes "ENDIF" ∷ [])) [] (codes "there are no macros and no conditions") ∷
@@ -116,7 +116,7 @@ operands =
     row [] (Between (codes "//") Any []) [] (codes "a comment begins with ;") ∷
     row bare (Between (codes "*") Any []) [] (codes "a comment begins with ;") ∷
     row bare (Between (codes "# ") Any []) [] (codes "a comment begins with ;") ∷
-    row [] (Between (codes "V") HexDigit []) [] (codes "V@ is a register of CHIP-8, for --chip8") ∷
+    row [] (Between (codes "V") HexDigit []) [] (codes "V@ is a register of CHIP-8: --chip8 reads it, as a run by --asm does") ∷
     row (codes "ADD" ∷ []) (Between [] Any []) [] (codes "with a number it is ADI") ∷
     row (codes "ADC" ∷ []) (Between [] Any []) [] (codes "with a number it is ADCI") ∷
     row (codes "SD" ∷ []) (Between [] Any []) [] (codes "with a number it is SDI") ∷
@@ -213,7 +213,7 @@ ranges =
 unfoldable pub undefined : List Row
 undefined =
     row [] (Between [] Hexadecimal (codes "H")) [] (codes "hexadecimal is 0x@") ∷
-    row [] (Between (codes "V") HexDigit []) [] (codes "V@ is a register of CHIP-8, for --chip8") ∷
+    row [] (Between (codes "V") HexDigit []) [] (codes "V@ is a register of CHIP-8: --chip8 reads it, as a run by --asm does") ∷
     row [] (Between [] Hexadecimal []) [] (codes "hexadecimal is 0x@, unless it is a name") ∷ []
 
 -- of the targets on another page

@@ -1,5 +1,5 @@
 -- The text of every fault of a source.
-use Rattle.std.specs.Prelude.{◌+◌, ◌&&◌, ℕ, Bool, false, List, [], ◌∷◌, ◌++◌, length, drop, flat_map, codes, decimal, min, nat_le, slice_index, slice_index_or, slice_range, if◌then◌else◌, Option, None, Some, is_some}
+use Rattle.std.specs.Prelude.{◌+◌, ◌==◌, ◌&&◌, ℕ, Bool, false, not, List, [], ◌∷◌, ◌++◌, length, drop, flat_map, codes, decimal, min, nat_le, slice_index, slice_index_or, slice_range, if◌then◌else◌, Option, None, Some, is_some}
 use Rattle.std.specs.List.{count_by, list_any, range_with_len}
 use Rattle.std.specs.Option.{option_map_or, option_or}
 use Rattle.vip_byte.specs.HexText.{hex2}
@@ -10,8 +10,9 @@ use Rattle.asm_core.specs.declared.findings.Finding.{Finding}
 use Rattle.asm_core.specs.FaultNames.{asm_cause_name}
 use Rattle.asm_core.specs.Sources.{line_at}
 use Rattle.asm_core.specs.Culprits.{spans_of}
-use Rattle.asm_core.specs.Operands.{further_finding}
-use Rattle.asm_core.specs.Told.{given_names, told, note_at}
+use Rattle.asm_core.specs.Fixed.{fixed_names}
+use Rattle.asm_core.specs.Operands.{further_finding, is_waiting}
+use Rattle.asm_core.specs.Told.{given_names, told, note_at, has_fault_1}
 use Rattle.asm_lex.specs.declared.words.Entry.{Entry}
 use Rattle.asm_lex.specs.Names.{Names}
 use Rattle.asm_lex.specs.Operands.{line_entry}
@@ -21,6 +22,7 @@ use Rattle.vip_byte.specs.Text.{newline}
 use Rattle.asm_lex.specs.Bytes.{is_semicolon}
 use Rattle.asm_lex.specs.Parts.{code_of}
 use Rattle.asm_lex.specs.Places.{word_span}
+use Rattle.asm_lex.specs.Spans.{text_at}
 use Rattle.asm_listing.specs.Comments.{has_comment, is_noted, noted_words, other_note}
 use Rattle.asm_listing.specs.Remedies.{named_remedy, remedy, is_octo}
 
@@ -56,22 +58,24 @@ finding_text isa given name number line finding =
     line_text name number (from + 1) (asm_cause_name finding.cause) culprit
     (option_or (named_remedy isa given finding.cause line culprit) (remedy isa finding.cause line culprit))
 
--- what is told of the operands of a line, one by one, beside its fault
+-- what is told of the operands of a line, one by one, beside its fault; `fixed` are the names whose values hang on no address
 abbrev pub no_span : Span
 no_span = record { from = 0; to = 0 }
 
-abbrev pub operand_text : Isa → Names → List ℕ → ℕ → List ℕ → Option Finding → Entry → List Span → ℕ → List ℕ
-operand_text isa given name number line told entry spans k =
-    option_map_or (finding_text isa given name number line)
-    (further_finding isa (λ name. None) given line entry k (slice_index_or spans k no_span) told) []
+abbrev pub operand_found : Isa → Names → Names → List ℕ → Option Finding → List Span → Entry → ℕ → Option Finding
+operand_found isa given fixed line told spans entry k = further_finding isa fixed given line entry k (slice_index_or spans k no_span) told
 
-abbrev pub entry_text : Isa → Names → List ℕ → ℕ → List ℕ → Option Finding → List Span → Entry → List ℕ
-entry_text isa given name number line told spans entry =
-    flat_map (operand_text isa given name number line told entry spans) (range_with_len 0 (length spans))
+abbrev pub operand_text : Isa → Names → Names → List ℕ → ℕ → List ℕ → Option Finding → List Span → Entry → ℕ → List ℕ
+operand_text isa given fixed name number line told spans entry k =
+    option_map_or (finding_text isa given name number line) (operand_found isa given fixed line told spans entry k) []
 
-unfoldable pub operands_text : Isa → Names → List ℕ → ℕ → List ℕ → Option Finding → List ℕ
-operands_text isa given name number line told =
-    if nat_le (length line) 255 then option_map_or (entry_text isa given name number line told (spans_of line)) (line_entry isa line) [] else []
+abbrev pub entry_text : Isa → Names → Names → List ℕ → ℕ → List ℕ → Option Finding → List Span → Entry → List ℕ
+entry_text isa given fixed name number line told spans entry =
+    flat_map (operand_text isa given fixed name number line told spans entry) (range_with_len 0 (length spans))
+
+unfoldable pub operands_text : Isa → Names → Names → List ℕ → ℕ → List ℕ → Option Finding → List ℕ
+operands_text isa given fixed name number line told =
+    if nat_le (length line) 255 then option_map_or (entry_text isa given fixed name number line told (spans_of line)) (line_entry isa line) [] else []
 
 -- an instruction in a comment
 abbrev pub note_text : List ℕ → ℕ → List ℕ → Place → List ℕ
@@ -104,25 +108,26 @@ notes_text isa name number line note =
     option_map_or (note_text name number line) (other_note isa line note) [] ++ comment_notes isa name number line
 
 -- What is told of one line: its fault, behind it those of its other operands, and behind them its notes.
-abbrev pub fault_text : Isa → Names → List ℕ → ℕ → List ℕ → Option Finding → List ℕ
-fault_text isa given name number line None = []
-fault_text isa given name number line (Some finding) =
-    finding_text isa given name number line finding ++ operands_text isa given name number line (Some finding)
+abbrev pub fault_text : Isa → Names → Names → List ℕ → ℕ → List ℕ → Option Finding → List ℕ
+fault_text isa given fixed name number line None = []
+fault_text isa given fixed name number line (Some finding) =
+    finding_text isa given name number line finding ++ operands_text isa given fixed name number line (Some finding)
 
 -- The rest is what is told of the operands of a line without such a fault.
-abbrev pub rest_text : Isa → Names → List ℕ → ℕ → List ℕ → Option Finding → List ℕ
-rest_text isa given name number line None = operands_text isa given name number line None
-rest_text isa given name number line (Some finding) = []
+abbrev pub rest_text : Isa → Names → Names → List ℕ → ℕ → List ℕ → Option Finding → List ℕ
+rest_text isa given fixed name number line None = operands_text isa given fixed name number line None
+rest_text isa given fixed name number line (Some finding) = []
 
-unfoldable pub told_text : Isa → Names → Part → List ℕ → ℕ → List ℕ → Option Finding → Option Place → List ℕ
-told_text isa given Faults name number line finding note =
-    fault_text isa given name number line finding ++ notes_text isa name number line note
-told_text isa given Rest name number line finding _ = rest_text isa given name number line finding
+unfoldable pub told_text : Isa → Names → Names → Part → List ℕ → ℕ → List ℕ → Option Finding → Option Place → List ℕ
+told_text isa given fixed Faults name number line finding note =
+    fault_text isa given fixed name number line finding ++ notes_text isa name number line note
+told_text isa given fixed Rest name number line finding _ = rest_text isa given fixed name number line finding
 
 -- of all lines, in their order
 unfoldable pub told_lines : Isa → Part → List ℕ → List (List ℕ) → List ℕ
 told_lines isa part name source =
-    flat_map (λ i. told_text isa (given_names isa source) part name (i + 1) (line_at source i) (told isa source i) (note_at isa source i))
+    flat_map
+    (λ i. told_text isa (given_names isa source) (fixed_names isa source) part name (i + 1) (line_at source i) (told isa source i) (note_at isa source i))
     (range_with_len 0 (length source))
 
 -- how many of the first lines have a fault that is a statement of Octo
@@ -137,14 +142,56 @@ abbrev pub octo_text : List ℕ → ℕ → List ℕ
 octo_text name count =
     if nat_le 10 count then name ++ (codes ": this looks like Octo: see docs/FIRST_CHIP8.md, From Octo" ++ newline) else []
 
--- a fault is told of some line
+-- a fault is told of some line, of the first ones and of all
+abbrev pub has_told_before : Isa → List (List ℕ) → ℕ → Bool
+has_told_before isa source count = list_any (λ i. is_some (told isa source i)) (range_with_len 0 count)
+
 abbrev pub has_told : Isa → List (List ℕ) → Bool
-has_told isa source = list_any (λ i. is_some (told isa source i)) (range_with_len 0 (length source))
+has_told isa source = has_told_before isa source (length source)
 
 -- So the first fault that is told is the first one of `told`, and where that has none no fault is told.
 abbrev pub rest_lines : Isa → Bool → List ℕ → List (List ℕ) → List ℕ
 rest_lines isa faulty name source = if faulty then told_lines isa Rest name source else []
 
+-- A line waits for the next run: nothing is told of it, and the value of an operand hangs on addresses. `behind` says that a fault is told before it.
+abbrev pub some_are_told : Isa → Names → Names → List ℕ → List Span → Entry → Bool
+some_are_told isa given fixed line spans entry =
+    list_any (λ k. is_some (operand_found isa given fixed line None spans entry k)) (range_with_len 0 (length spans))
+
+abbrev pub some_wait : Isa → Names → Bool → List ℕ → List Span → Entry → Bool
+some_wait isa fixed behind line spans entry =
+    list_any (λ k. is_waiting isa fixed behind entry k (text_at line (slice_index_or spans k no_span))) (range_with_len 0 (length spans))
+
+abbrev pub entry_waits : Isa → Names → Names → Bool → List ℕ → List Span → Entry → Bool
+entry_waits isa given fixed behind line spans entry = some_wait isa fixed behind line spans entry && not (some_are_told isa given fixed line spans entry)
+
+unfoldable pub line_waits : Isa → Names → Names → Bool → List ℕ → Bool
+line_waits isa given fixed behind line =
+    if nat_le (length line) 255 then option_map_or (entry_waits isa given fixed behind line (spans_of line)) (line_entry isa line) false else false
+
+abbrev pub waits : Isa → Names → Names → Bool → List ℕ → Option Finding → Bool
+waits isa given fixed behind line None = line_waits isa given fixed behind line
+waits isa given fixed behind line (Some finding) = false
+
+-- how many of the first lines wait
+unfoldable pub waiting_count : Isa → List (List ℕ) → ℕ → ℕ
+waiting_count isa source count =
+    count_by (λ i. waits isa (given_names isa source) (fixed_names isa source) (has_told_before isa source i) (line_at source i) (told isa source i))
+    (range_with_len 0 count)
+
+-- the last line, where pass 2 didn't run and lines wait for it
+abbrev pub lines_more : ℕ → List ℕ
+lines_more count = decimal count ++ (if count == 1 then codes " line more is" else codes " lines more are")
+
+abbrev pub waiting_text : List ℕ → ℕ → List ℕ
+waiting_text name count =
+    if count == 0 then [] else name ++ (codes ": " ++ (lines_more count ++ (codes " looked at when these are mended" ++ newline)))
+
+abbrev pub waiting_line : Isa → Bool → List ℕ → List (List ℕ) → List ℕ
+waiting_line isa faulty name source = if faulty then waiting_text name (waiting_count isa source (length source)) else []
+
 unfoldable pub report_of : Isa → List ℕ → List (List ℕ) → List ℕ
 report_of isa name source =
-    told_lines isa Faults name source ++ (rest_lines isa (has_told isa source) name source ++ octo_text name (octo_count isa source (length source)))
+    told_lines isa Faults name source
+    ++ (rest_lines isa (has_told isa source) name source
+    ++ (octo_text name (octo_count isa source (length source)) ++ waiting_line isa (has_fault_1 isa source) name source))

@@ -126,7 +126,7 @@ static WORDS: [Row; 29] = [
     Row { after: After::AnyWord, shape: Shape::Words(&["JMP", "JUMP", "BRA", "GOTO"]), behind: "", says: "no instruction of the 1802: BR, or LBR to another page" },
     Row { after: After::AnyWord, shape: Shape::Words(&["MOV", "MVI", "LXI", "STA", "LDAA", "STAA", "PUSH", "POP", "CMP", "CPI", "CLR", "NOP2"]), behind: "", says: "no instruction of the 1802" },
     Row { after: After::AnyWord, shape: Shape::Words(&["RLDI", "RLXA", "RSXD", "RNX", "DBNZ", "LDC", "GEC", "STPC", "DTC", "STM", "ETQ", "XIE", "XID", "CIE", "CID"]), behind: "", says: "an instruction of the 1804, and none of the 1802" },
-    Row { after: After::AnyWord, shape: Shape::Words(&["CLS", "SYS", "JP", "SE", "SNE", "LD", "SUBN", "RND", "DRW", "SKNP"]), behind: "", says: "a word of CHIP-8, for --chip8" },
+    Row { after: After::AnyWord, shape: Shape::Words(&["CLS", "SYS", "JP", "SE", "SNE", "LD", "SUBN", "RND", "DRW", "SKNP"]), behind: "", says: "a word of CHIP-8: --chip8 reads it, as a run by --asm does" },
     Row { after: After::AnyWord, shape: Shape::Words(&["CPU", "TITLE", "END", "LIST", "NOLIST", "EJECT", "PRINT"]), behind: "", says: "delete the line" },
     Row { after: After::AnyWord, shape: Shape::Words(&["INCLUDE", "#INCLUDE"]), behind: "", says: "put the lines of that file here" },
     Row { after: After::AnyWord, shape: Shape::Words(&["MACRO", "ENDM", "IF", "ELSE", "ENDIF"]), behind: "", says: "there are no macros and no conditions" },
@@ -148,7 +148,7 @@ static OPERANDS: [Row; 78] = [
     Row { after: After::AnyWord, shape: Shape::Between("//", Class::Any, ""), behind: "", says: "a comment begins with ;" },
     Row { after: After::Bare, shape: Shape::Between("*", Class::Any, ""), behind: "", says: "a comment begins with ;" },
     Row { after: After::Bare, shape: Shape::Between("# ", Class::Any, ""), behind: "", says: "a comment begins with ;" },
-    Row { after: After::AnyWord, shape: Shape::Between("V", Class::HexDigit, ""), behind: "", says: "V@ is a register of CHIP-8, for --chip8" },
+    Row { after: After::AnyWord, shape: Shape::Between("V", Class::HexDigit, ""), behind: "", says: "V@ is a register of CHIP-8: --chip8 reads it, as a run by --asm does" },
     Row { after: After::These(&["ADD"]), shape: Shape::Between("", Class::Any, ""), behind: "", says: "with a number it is ADI" },
     Row { after: After::These(&["ADC"]), shape: Shape::Between("", Class::Any, ""), behind: "", says: "with a number it is ADCI" },
     Row { after: After::These(&["SD"]), shape: Shape::Between("", Class::Any, ""), behind: "", says: "with a number it is SDI" },
@@ -248,7 +248,7 @@ static RANGES: [Row; 4] = [
 #[rattlefmt::skip]
 static UNDEFINED: [Row; 3] = [
     Row { after: After::AnyWord, shape: Shape::Between("", Class::Hexadecimal, "H"), behind: "", says: "hexadecimal is 0x@" },
-    Row { after: After::AnyWord, shape: Shape::Between("V", Class::HexDigit, ""), behind: "", says: "V@ is a register of CHIP-8, for --chip8" },
+    Row { after: After::AnyWord, shape: Shape::Between("V", Class::HexDigit, ""), behind: "", says: "V@ is a register of CHIP-8: --chip8 reads it, as a run by --asm does" },
     Row { after: After::AnyWord, shape: Shape::Between("", Class::Hexadecimal, ""), behind: "", says: "hexadecimal is 0x@, unless it is a name" },
 ];
 

@@ -14,6 +14,7 @@ mod raw_bytes;
 mod remedies;
 mod report_text;
 mod source_listing;
+mod waiting;
 mod write;
 
 pub use crate::hex_dump::dump;

@@ -7,14 +7,16 @@ ghost use Rattle.asm_core.specs.Limits.{most_bytes};
 ghost use Rattle.asm_core.specs.Sources.{source_lines};
 ghost use Rattle.asm_lex.specs.Names.{value_in};
 ghost use Rattle.asm_lex.specs.Spans.{IsWithin, AreWithin};
-ghost use Rattle.asm_core.specs.Told.{AreTold, AreNoted, AgreesWithFaults, given_names};
+ghost use Rattle.asm_core.specs.Fixed.{fixed_names};
+ghost use Rattle.asm_core.specs.Told.{AreTold, AreNoted, AgreesWithFaults, given_names, has_fault_1};
 ghost use Rattle.asm_listing.specs.Remedies.{named_remedy, remedy};
 ghost use Rattle.asm_listing.specs.Told.{shown_byte, shown, line_text, remark_text, start_at, bytes_at, finding_text, no_span, entry_text, operands_text, note_text, notes_text, fault_text, rest_text, told_text, told_lines, is_octo_told, octo_count, octo_text, has_told, rest_lines, report_of};
 
 use crate::comments::{append_comment_notes, other_note};
 use crate::remedies::{is_octo, named_remedy, remedy};
+use crate::waiting::append_waiting;
 use crate::write::{append, append_each};
-use asm_core::{AsmCause, AsmFault, Finding, Told, check, further_finding, next_line};
+use asm_core::{AsmCause, AsmFault, Checked, Finding, Told, check, further_finding, next_line};
 use asm_lex::{Entry, Isa, Place, Span, Symbols, line_entry, line_spans};
 use itoa::Buffer as Digits;
 use std::alloc::{AllocError, Global};
@@ -187,7 +189,7 @@ fn append_finding_of(
     }
 }
 
-fn span_at(line: &[u8], spans: &[Span], k: usize) -> Span
+pub(crate) fn span_at(line: &[u8], spans: &[Span], k: usize) -> Span
     requires inside { k < length spans.now }
     requires within { AreWithin line.now spans.now }
     ensures span { result ≡ slice_index_or spans.now k no_span }
@@ -202,6 +204,7 @@ fn append_entry(
     text: &mut Vec<u8>,
     isa: Isa,
     given: &Symbols,
+    fixed: &Symbols,
     name: &[u8],
     number: u32,
     line: &[u8],
@@ -211,12 +214,12 @@ fn append_entry(
 ) -> Result<(), AllocError>
     requires within { AreWithin line.now spans.now }
     requires short { length line.now ≤ 255 }
-    ensures { OnOk result (text.new.items ≡ text.old.items ++ entry_text isa (value_in given.now) name.now number line.now told spans.now entry) }
+    ensures { OnOk result (text.new.items ≡ text.old.items
+        ++ entry_text isa (value_in given.now) (value_in fixed.now) name.now number line.now told spans.now entry) }
 {
-    let none = Symbols::new(alloc);
     for k in 0..spans.len() {
         let span = span_at(line, spans, k);
-        let found = further_finding(isa, &none, given, line, entry, k, span, told);
+        let found = further_finding(isa, fixed, given, line, entry, k, span, told);
         append_finding_of(alloc, text, isa, given, name, number, line, found)?;
     }
     Ok(())
@@ -228,12 +231,13 @@ fn append_operands(
     text: &mut Vec<u8>,
     isa: Isa,
     given: &Symbols,
+    fixed: &Symbols,
     name: &[u8],
     number: u32,
     line: &[u8],
     told: Option<Finding>,
 ) -> Result<(), AllocError>
-    ensures { OnOk result (text.new.items ≡ text.old.items ++ operands_text isa (value_in given.now) name.now number line.now told) }
+    ensures { OnOk result (text.new.items ≡ text.old.items ++ operands_text isa (value_in given.now) (value_in fixed.now) name.now number line.now told) }
 {
     if line.len() > 255 {
         return Ok(());
@@ -242,7 +246,7 @@ fn append_operands(
     let operands = spans.operands.as_slice();
     match line_entry(isa, line) {
         Some(entry) => append_entry(
-            alloc, text, isa, given, name, number, line, told, operands, entry,
+            alloc, text, isa, given, fixed, name, number, line, told, operands, entry,
         ),
         None => Ok(()),
     }
@@ -254,17 +258,18 @@ fn append_fault(
     text: &mut Vec<u8>,
     isa: Isa,
     given: &Symbols,
+    fixed: &Symbols,
     name: &[u8],
     number: u32,
     line: &[u8],
     told: Option<Finding>,
 ) -> Result<(), AllocError>
-    ensures { OnOk result (text.new.items ≡ text.old.items ++ fault_text isa (value_in given.now) name.now number line.now told) }
+    ensures { OnOk result (text.new.items ≡ text.old.items ++ fault_text isa (value_in given.now) (value_in fixed.now) name.now number line.now told) }
 {
     match told {
         Some(finding) => {
             append_finding(alloc, text, isa, given, name, number, line, finding)?;
-            append_operands(alloc, text, isa, given, name, number, line, told)
+            append_operands(alloc, text, isa, given, fixed, name, number, line, told)
         }
         None => Ok(()),
     }
@@ -276,16 +281,17 @@ fn append_rest(
     text: &mut Vec<u8>,
     isa: Isa,
     given: &Symbols,
+    fixed: &Symbols,
     name: &[u8],
     number: u32,
     line: &[u8],
     told: Option<Finding>,
 ) -> Result<(), AllocError>
-    ensures { OnOk result (text.new.items ≡ text.old.items ++ rest_text isa (value_in given.now) name.now number line.now told) }
+    ensures { OnOk result (text.new.items ≡ text.old.items ++ rest_text isa (value_in given.now) (value_in fixed.now) name.now number line.now told) }
 {
     match told {
         Some(_) => Ok(()),
-        None => append_operands(alloc, text, isa, given, name, number, line, told),
+        None => append_operands(alloc, text, isa, given, fixed, name, number, line, told),
     }
 }
 
@@ -338,6 +344,7 @@ fn append_told(
     text: &mut Vec<u8>,
     isa: Isa,
     given: &Symbols,
+    fixed: &Symbols,
     part: Part,
     name: &[u8],
     number: u32,
@@ -345,14 +352,14 @@ fn append_told(
     told: Option<Finding>,
     note: Option<Place>,
 ) -> Result<(), AllocError>
-    ensures { OnOk result (text.new.items ≡ text.old.items ++ told_text isa (value_in given.now) part name.now number line.now told note) }
+    ensures { OnOk result (text.new.items ≡ text.old.items ++ told_text isa (value_in given.now) (value_in fixed.now) part name.now number line.now told note) }
 {
     match part {
         Part::Faults => {
-            append_fault(alloc, text, isa, given, name, number, line, told)?;
+            append_fault(alloc, text, isa, given, fixed, name, number, line, told)?;
             append_notes(alloc, text, isa, name, number, line, note)
         }
-        Part::Rest => append_rest(alloc, text, isa, given, name, number, line, told),
+        Part::Rest => append_rest(alloc, text, isa, given, fixed, name, number, line, told),
     }
 }
 
@@ -366,7 +373,7 @@ pub struct CheckText {
 }
 
 // What is told of the line at a place, where it is a fault or a note.
-fn told_at<T: Copy>(told: &[Option<T>], index: usize) -> Option<T>
+pub(crate) fn told_at<T: Copy>(told: &[Option<T>], index: usize) -> Option<T>
     requires { index < length told.now }
     ensures { result ≡ slice_index_or told.now index None }
 {
@@ -378,6 +385,7 @@ fn text_of(
     alloc: Global,
     isa: Isa,
     given: &Symbols,
+    fixed: &Symbols,
     part: Part,
     name: &[u8],
     text: &[u8],
@@ -387,6 +395,7 @@ fn text_of(
     requires told { AreTold isa (source_lines text.now) told.now.findings.items }
     requires noted { AreNoted isa (source_lines text.now) told.now.notes.items }
     requires given { value_in given.now ≡ given_names isa (source_lines text.now) }
+    requires fixed { value_in fixed.now ≡ fixed_names isa (source_lines text.now) }
     ensures { IfOk result (λ report. report.items ≡ told_lines isa part name.now (source_lines text.now)) }
 {
     let findings = told.findings.as_slice();
@@ -402,6 +411,7 @@ fn text_of(
             &mut report,
             isa,
             given,
+            fixed,
             part,
             name,
             number + 1,
@@ -424,7 +434,7 @@ fn is_octo_told(isa: Isa, line: &[u8], finding: Option<Finding>) -> bool
     }
 }
 
-fn one_if(test: bool) -> u32
+pub(crate) fn one_if(test: bool) -> u32
     ensures value { result ≡ (if test then 1 else 0) }
     ensures most { result ≤ 1 }
 {
@@ -484,6 +494,7 @@ fn rest_of(
     alloc: Global,
     isa: Isa,
     given: &Symbols,
+    fixed: &Symbols,
     name: &[u8],
     text: &[u8],
     told: &Told,
@@ -493,37 +504,46 @@ fn rest_of(
     requires told { AreTold isa (source_lines text.now) told.now.findings.items }
     requires noted { AreNoted isa (source_lines text.now) told.now.notes.items }
     requires given { value_in given.now ≡ given_names isa (source_lines text.now) }
+    requires fixed { value_in fixed.now ≡ fixed_names isa (source_lines text.now) }
     ensures { IfOk result (λ rest. rest.items ≡ rest_lines isa faulty name.now (source_lines text.now)) }
 {
     if faulty {
-        text_of(alloc, isa, given, Part::Rest, name, text, told)
+        text_of(alloc, isa, given, fixed, Part::Rest, name, text, told)
     } else {
         Ok(Vec::new(alloc))
     }
 }
 
-// What is told of all lines, and behind it that they look like Octo's.
+// What is told of all lines, and behind it that they look like Octo's, and how many wait for the next run.
 #[tactic(auto, unfolding(crate::specs::Told::report_of))]
 fn whole_text(
     alloc: Global,
     isa: Isa,
-    given: &Symbols,
     name: &[u8],
     text: &[u8],
-    told: &Told,
+    checked: &Checked,
     faulty: bool,
 ) -> Result<Vec<u8>, AllocError>
     requires text { length text.now ≤ most_bytes }
-    requires told { AreTold isa (source_lines text.now) told.now.findings.items }
-    requires noted { AreNoted isa (source_lines text.now) told.now.notes.items }
-    requires given { value_in given.now ≡ given_names isa (source_lines text.now) }
+    requires told { AreTold isa (source_lines text.now) checked.now.told.findings.items }
+    requires noted { AreNoted isa (source_lines text.now) checked.now.told.notes.items }
+    requires given { value_in checked.now.names ≡ given_names isa (source_lines text.now) }
+    requires fixed { value_in checked.now.fixed ≡ fixed_names isa (source_lines text.now) }
+    requires waits { checked.now.waits ≡ has_fault_1 isa (source_lines text.now) }
     requires faulty { faulty ≡ has_told isa (source_lines text.now) }
     ensures { IfOk result (λ report. report.items ≡ report_of isa name.now (source_lines text.now)) }
 {
-    let mut report = text_of(alloc, isa, given, Part::Faults, name, text, told)?;
-    let mut rest = rest_of(alloc, isa, given, name, text, told, faulty)?;
-    append_octo(&mut rest, name, octo_count(isa, text, told))?;
+    let Checked {
+        told,
+        waits,
+        names,
+        fixed,
+    } = checked;
+    let mut report = text_of(alloc, isa, names, fixed, Part::Faults, name, text, told)?;
+    let rest = rest_of(alloc, isa, names, fixed, name, text, told, faulty)?;
     append(&mut report, rest.as_slice())?;
+    append_octo(&mut report, name, octo_count(isa, text, told))?;
+    append_waiting(&mut report, isa, names, fixed, name, text, told, *waits)?;
     Ok(report)
 }
 
@@ -537,15 +557,7 @@ pub fn report(alloc: Global, isa: Isa, name: &[u8], text: &[u8]) -> Result<Check
 {
     let checked = check(alloc, isa, text)?;
     let faulty = has_told(checked.told.findings.as_slice());
-    match whole_text(
-        alloc,
-        isa,
-        &checked.names,
-        name,
-        text,
-        &checked.told,
-        faulty,
-    ) {
+    match whole_text(alloc, isa, name, text, &checked, faulty) {
         Ok(text) => Ok(CheckText { text, faulty }),
         Err(_) => Err(AsmFault::NoMemory),
     }

@@ -9,4 +9,4 @@ use Rattle.asm_listing.proofs.report_text.append_entry.Given as goal
 abbrev pub invariant-loop-k : goal.invariant-loop-k
 invariant-loop-k l =
     l.text.items
-    ≡ l.fn.text.items ++ flat_map (operand_text l.isa (value_in l.given) l.name l.number l.line l.told l.entry l.spans) (range_with_len 0 l.k)
+    ≡ l.fn.text.items ++ flat_map (operand_text l.isa (value_in l.given) (value_in l.fixed) l.name l.number l.line l.told l.spans l.entry) (range_with_len 0 l.k)
