@@ -1,22 +1,12 @@
 use Rattle.std.proofs.Common.{◌≡◌, ◌+◌, ℕ, Bool, None, length, refl, sym, ap, ◌∙◌, arith, cond}
 use Rattle.std.specs.Prelude.{slice_index_or}
 use Rattle.std.specs.List.{count_by, range_with_len}
-use Rattle.std.proofs.lemmas.List.Sums.{sum_by_push}
 use Rattle.asm_core.specs.Sources.{source_lines, line_at}
 use Rattle.asm_core.specs.Told.{told}
 use Rattle.asm_core.proofs.PassOne.{line_here, no_line}
 use Rattle.asm_listing.specs.Told.{is_octo_told, octo_count}
-use Rattle.asm_listing.proofs.Ranges.{range_push}
+use Rattle.asm_listing.proofs.Counted.{count-more}
 use Rattle.asm_listing.proofs.report_text.octo_count.Goals as goal
-
--- one more is counted
-count-more : (f : ℕ → Bool) (i : ℕ) → count_by f (range_with_len 0 (i + 1)) ≡ count_by f (range_with_len 0 i) + cond (f i) 1 0
-count-more f i =
-    let g : ℕ → ℕ = λ k. cond (f k) 1 0 in
-    let here : 0 + i ≡ i = omega arith in
-    ap (count_by f) (range_push i 0)
-    ∙ sum_by_push g (range_with_len 0 i) (0 + i)
-    ∙ ap (λ k. count_by f (range_with_len 0 i) + g k) here
 
 pub loop-line-init : goal.loop-line-init
 unfolding octo_count

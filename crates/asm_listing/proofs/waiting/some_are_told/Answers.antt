@@ -13,7 +13,7 @@ loop-k-preserved c =
     let f : ℕ → Bool = λ k.
     is_some (operand_found c.args.isa (value_in c.args.given.now) (value_in c.args.fixed.now) c.args.line.now None c.args.spans.now c.args.entry k) in
     let some : c.if-some.some ≡ (c.loop-k.some || f k) = elim c.if-some.branch [
-      | then-some w ↦ w.some-is ∙ sym (ap (λ b. b || f k) w.if-some.true)
+      | then-some w ↦ w.some-is ∙ w.if-some.true ∙ sym (ap (λ b. b || f k) w.if-some.true)
       | else-some w ↦ w.some-is ∙ w.is_told-some.ensures ∙ sym (ap (λ b. b || f k) w.if-some.false)
     ] in
     some ∙ ap (λ b. b || f k) c.loop-k.invariant ∙ sym (any-more f k)

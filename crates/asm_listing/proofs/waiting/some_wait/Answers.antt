@@ -20,7 +20,7 @@ loop-k-preserved c =
     let text : c.text_at-text.result.now ≡ text_at line (slice_index_or c.args.spans.now k no_span) =
     c.text_at-text.ensures ∙ ap (λ (span : Span). text_at line span) c.span_at.ensures.span in
     let some : c.if-some.some ≡ (c.loop-k.some || f k) = elim c.if-some.branch [
-      | then-some w ↦ w.some-is ∙ sym (ap (λ b. b || f k) w.if-some.true)
+      | then-some w ↦ w.some-is ∙ w.if-some.true ∙ sym (ap (λ b. b || f k) w.if-some.true)
       | else-some w ↦ w.some-is ∙ w.is_waiting-some.ensures ∙ ap g text ∙ sym (ap (λ b. b || f k) w.if-some.false)
     ] in
     some ∙ ap (λ b. b || f k) c.loop-k.invariant ∙ sym (any-more f k)

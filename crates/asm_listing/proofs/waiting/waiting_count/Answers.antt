@@ -48,7 +48,7 @@ loop-line-preserved c =
     ∙ ap (λ l. waits isa given fixed behind l (told isa source number)) (sym here.1) in
     let one : c.one_if-count.result ≡ cond (f number) 1 0 = c.one_if-count.ensures.value ∙ ap (λ b. cond b 1 0) waiting in
     let more : c.if-behind.behind ≡ (loop.behind || any number) = elim c.if-behind.branch [
-      | then-behind w ↦ w.behind-is ∙ sym (ap (λ b. b || any number) w.if-behind.true)
+      | then-behind w ↦ w.behind-is ∙ w.if-behind.true ∙ sym (ap (λ b. b || any number) w.if-behind.true)
       | else-behind w ↦
           w.behind-is ∙ w.is_some-behind.ensures ∙ ap (λ (o : Option Finding). is_some o) finding ∙ sym (ap (λ b. b || any number) w.if-behind.false)
     ] in
