@@ -1,7 +1,6 @@
 -- What is told of the operands of a line one by one. It hangs on the line, on which names are given, and on the values of `fixed`, those names whose
 -- values hang on no address and stand in lines that are right: so it stays whatever other lines are mended to, while they give the same names.
 use Rattle.std.specs.Prelude.{◌==◌, ◌/◌, ◌&&◌, ◌||◌, ℕ, Bool, true, false, not, List, [], ◌∷◌, nat_le, if◌then◌else◌, Option, None, Some, option_map, Result, Ok, Err}
-use Rattle.std.specs.List.{list_any}
 use Rattle.std.specs.Option.{option_or}
 use Rattle.asm_lex.specs.declared.culprit.Sought.TheVariants.{NotGiven}
 use Rattle.asm_lex.specs.declared.shape.Isa.{Isa}

@@ -1,6 +1,5 @@
 use Rattle.std.proofs.Common.{◌≡◌, ◌∙◌, ℕ, Bool, None, sym, ap}
 use Rattle.std.specs.Prelude.{is_some, ◌||◌}
-use Rattle.std.specs.List.{list_any, range_with_len}
 use Rattle.asm_lex.specs.Names.{value_in}
 use Rattle.asm_listing.specs.Told.{operand_found}
 use Rattle.asm_listing.proofs.Counted.{any-more}

@@ -1,6 +1,5 @@
 use Rattle.std.proofs.Common.{◌≡◌, ◌∙◌, ℕ, Bool, List, sym, ap}
 use Rattle.std.specs.Prelude.{◌||◌, slice_index_or}
-use Rattle.std.specs.List.{list_any, range_with_len}
 use Rattle.asm_lex.specs.declared.shape.Span.{Span}
 use Rattle.asm_lex.specs.Names.{value_in}
 use Rattle.asm_lex.specs.Spans.{text_at}

@@ -1,6 +1,6 @@
 use Rattle.std.proofs.Common.{◌≡◌, ◌+◌, ℕ, Bool, Option, None, length, refl, sym, ap, ◌∙◌, arith, cond}
 use Rattle.std.specs.Prelude.{slice_index_or, is_some, ◌||◌}
-use Rattle.std.specs.List.{count_by, list_any, range_with_len}
+use Rattle.std.specs.List.{count_by, range_with_len}
 use Rattle.asm_lex.specs.Names.{Names, value_in}
 use Rattle.asm_core.specs.declared.findings.Finding.{Finding}
 use Rattle.asm_core.specs.Fixed.{fixed_names}
