@@ -2,7 +2,7 @@
 //! seen of many runs.
 //!
 //! `processor` runs the CDP1802 of `vip_cpu` through the vectors of `data/processor.txt`, alone and on a board of `vip_board`, small ROMs on a board, and
-//! two boards that are joined by port 3. `interpreter` measures both editions of the ROM. The stored output is what all of this must give: what
+//! two boards that are joined by port 3, also with wrong ROMs. `interpreter` measures both editions of the ROM. The stored output is what all of this must give: what
 //! passed and failed, each count of what failed with the first that did, and the figures that `docs/MACHINE.md` sets beside the bounds.
 //!
 //! Where a file `steps.txt` is there, which `vectors/to_json` puts, it runs the vectors in that and tells each access of the bus, and does nothing else.
@@ -10,6 +10,7 @@
 //! It stands on the board, the assembler, the ROM and `vip_show`, and not on the program. Nothing here is proved but that it is safe.
 #![tactic(auto)]
 
+mod changes;
 mod counts;
 mod interpreter;
 mod keys;
@@ -23,6 +24,7 @@ fn main(rt: HostRuntime) -> anyhow::Result<()> {
     }
     let vectors = fs::read_to_string(&rt, "processor.txt")?;
     processor::run(&rt, &vectors, &fs::read_to_string(&rt, "boards.txt")?)?;
+    processor::run_wrong_links(&rt, &fs::read_to_string(&rt, "links.txt")?)?;
     let costs = fs::read_to_string(&rt, "costs.txt")?;
     interpreter::run(&rt, &costs, &fs::read_to_string(&rt, "wrong.txt")?)
 }

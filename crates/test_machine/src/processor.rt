@@ -5,7 +5,8 @@
 //! into the state before, over a plain memory, and makes one instruction, and then the moves that the signals of the vector want. Its
 //! registers, its calls on the bus and its machine cycles must be those of the vector. The vectors that were measured with the display
 //! on run on a whole board of `vip_board` too, whose video chip gives the signals. Then come the rows of a memory, the small ROMs of
-//! `data/boards.txt` on a whole board, whose outcome was worked out by hand, and two boards that are joined by port 3 under many schedules.
+//! `data/boards.txt` on a whole board, whose outcome was worked out by hand, and two boards that are joined by port 3 under many schedules, and with
+//! the wrong ROMs of `data/links.txt`.
 //!
 //! It is a test of the definitions of `machine`, which no proof can judge.
 
@@ -19,6 +20,7 @@ mod small_rom;
 mod steps;
 mod test_bus;
 mod vector;
+mod wrong_links;
 
 use crate::counts::Counts;
 use crate::processor::preamble::Preamble;
@@ -27,6 +29,7 @@ use crate::processor::vector::{State, Vector};
 use std::alloc::Global;
 pub use steps::write_steps;
 use vip_cpu::{Cpu, Did};
+pub use wrong_links::run_wrong_links;
 
 /// Runs a processor up to its next boundary. Answers the machine cycles, or 0 where they are more than 3.
 ///

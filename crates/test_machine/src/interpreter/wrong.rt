@@ -1,18 +1,15 @@
 //! Interpreters that are wrong on purpose: an edition's ROM with other bytes at some addresses, and a game that shows it.
 
+use crate::changes::change;
 use crate::interpreter::console::{Console, rom_of};
 use crate::interpreter::game::Game;
 use crate::interpreter::watch::Watch;
 use chip8_lang::Edition;
-use hex::FromHex;
 use std::alloc::Global;
 use vip_keypad::Script;
 
 /// The cycles of a run, 250 frames.
 const CYCLES: u64 = 917_000;
-
-/// The first address of the ROM.
-const ROM: u16 = 0x8000;
 
 /// The interpreter of a line of `data/wrong.txt`.
 #[derive(Clone, Copy)]
@@ -45,14 +42,4 @@ impl<'a> Wrong<'a> {
             watch.run(&mut console, CYCLES);
         }
     }
-}
-
-/// Puts bytes into a ROM: each word has the four digits of an address and the two of its byte.
-fn change(rom: &mut [u8; 2048], words: &str) -> Option<()> {
-    for word in words.split_whitespace() {
-        let [high, low, byte] = <[u8; 3]>::from_hex(word).ok()?;
-        let place = u16::from_be_bytes([high, low]).wrapping_sub(ROM);
-        *rom.get_mut(usize::from(place))? = byte;
-    }
-    Some(())
 }
