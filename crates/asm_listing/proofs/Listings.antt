@@ -1,7 +1,7 @@
 -- The lines of a listing, read off an assembly.
 use Rattle.std.proofs.Common.{◌≡◌, ◌+◌, ◌-◌, ◌*◌, ◌/◌, ◌<◌, ◌≤◌, ℕ, zero, suc, refl, Bool, List, [], ◌∷◌, ◌++◌, length, take, get_or, sym, ◌∙◌, ap, arith, true, false, Some, None, Option, Ok, Err, Result, cond, inl, inr, min}
-use Rattle.std.specs.Prelude.{◌||◌, map, flat_map, nat_le, slice_index, slice_get, is_some, option_map, codes}
-use Rattle.std.specs.Option.{option_or, option_map_or}
+use Rattle.std.specs.Prelude.{◌||◌, map, flat_map, nat_le, slice_index, slice_get, is_some, option_map, unwrap_or, codes}
+use Rattle.std.specs.Option.{option_or}
 use Rattle.std.specs.Result.{result_unwrap_or}
 use Rattle.std.specs.List.{list_any, range_with_len}
 use Rattle.std.proofs.lemmas.Bool.{cond-true, le-leb, both_ways, cases_eq}
@@ -20,7 +20,8 @@ use Rattle.asm_core.proofs.PassTwo.{bytes_count, count_fits}
 use Rattle.vip_byte.specs.HexText.{hex2}
 use Rattle.vip_byte.specs.Text.{newline}
 use Rattle.asm_listing.specs.Listing.{blanks, label_text, digits_of, three_at, further_line, further_lines, first_digits, number_text, line_listing, listed, lines_text}
-use Rattle.asm_listing.specs.Shown.{byte_count, byte_at, bytes_from}
+use Rattle.asm_listing.specs.Raw.{bytes_from}
+use Rattle.asm_listing.specs.Shown.{byte_count, byte_at}
 use Rattle.asm_core.proofs.Cells.{length-range, get_or-range}
 use Rattle.asm_listing.proofs.Ranges.{range_push, take-range, drop-range}
 
@@ -191,7 +192,7 @@ module _ (isa : Isa) (source : List (List ℕ)) where
 
     read : (j : ℕ) → j < length bytes → byte_at made (at + j) ≡ get_or bytes j 0
     read j inside =
-        ap (λ (o : Option Cell). option_map_or (λ cell. cell.byte) o 0)
+        ap (λ (o : Option Cell). unwrap_or (option_map (λ cell. cell.byte) o) 0x00)
         (assembled.cells (at + j) (omega (arith, fits))
         ∙ kept (length source) i (at + j) (record { byte = get_or bytes j 0; line = i + 1 }) below (cell_here j inside))
 

@@ -10,6 +10,7 @@ use Rattle.asm_listing.proofs.Ranges.{range_push}
 -- one byte more
 pub bytes_push : (made : Made) (low address : ℕ) → low ≤ address
     → bytes_from made low (address + 1 - low) ≡ bytes_from made low (address - low) ++ unwrap_or (made_byte made address) 0x00 ∷ []
+unfolding bytes_from
 bytes_push made low address within =
     let f : ℕ → ℕ = λ a. unwrap_or (made_byte made a) 0x00 in
     let count : address + 1 - low ≡ (address - low) + 1 = omega (arith, within) in

@@ -22,7 +22,7 @@ IsSpan made end None = (address : ℕ) → address < end → made_byte made addr
 IsSpan made end (Some span) = Spans made end span.0 span.1
 
 -- so many bytes from an address on
-abbrev pub bytes_from : Made → ℕ → ℕ → List ℕ
+unfoldable pub bytes_from : Made → ℕ → ℕ → List ℕ
 bytes_from made low count = map (λ address. unwrap_or (made_byte made address) 0x00) (range_with_len low count)
 
 -- A file of the CDP1802 begins with the lowest address that has a byte, a game with its first address.

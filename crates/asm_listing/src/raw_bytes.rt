@@ -42,6 +42,7 @@ fn first_shown(isa: Isa, low: u32) -> u32
 
 /// The bytes of an assembly, from the lowest address that has one, or from CHIP-8's first address, to the highest that has one, with 00 at
 /// those between that have none; nothing, where no address has a byte. Answers an error where memory is refused.
+#[tactic(auto, unfolding(crate::specs::Raw::bytes_from))]
 pub fn raw(alloc: Global, isa: Isa, made: &Assembly) -> Result<Vec<u8>, AllocError>
     ensures { IfOk result (λ bytes. IsRaw isa made.now bytes.items) }
 {

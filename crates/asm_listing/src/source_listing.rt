@@ -9,7 +9,8 @@ ghost use Rattle.std.specs.Cmp.Lexicographic.{slice_cmp};
 ghost use Rattle.asm_core.specs.Made.{IsAssembly, line_place};
 ghost use Rattle.asm_core.specs.Sources.{source_lines};
 ghost use Rattle.asm_listing.specs.Listing.{blanks, digits_of, first_digits, further_line, further_lines, line_listing, number_text, value_text, label_text, symbol_line, symbols_text, IsListing};
-ghost use Rattle.asm_listing.specs.Shown.{byte_at, byte_count, bytes_from};
+ghost use Rattle.asm_listing.specs.Raw.{bytes_from};
+ghost use Rattle.asm_listing.specs.Shown.{byte_at, byte_count};
 
 use crate::write::append;
 use asm_core::{Assembly, LabelValue, LinePlace, next_line};

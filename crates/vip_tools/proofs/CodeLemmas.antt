@@ -120,6 +120,7 @@ module _ (made made' : Made) (same : (a : ℕ) → a < 65536 → made_byte made 
       highs = one s.1 t.1 behind_s behind_t
 
   same_range : (low count : ℕ) → low + count ≤ 65536 → bytes_from made low count ≡ bytes_from made' low count
+  unfolding bytes_from
   same_range low count within =
       fill_by_all there (bytes_from made low count) count 0 (length-map-range_with_len byte low count)
       (λ k few. get_or-map-range_with_len byte low count k (low + k) 0 few refl)

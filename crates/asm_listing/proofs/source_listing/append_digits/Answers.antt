@@ -1,6 +1,6 @@
 use Rattle.std.proofs.Common.{◌-◌, ◌++◌, ap, ◌∙◌}
 use Rattle.asm_listing.specs.Listing.{digits_of}
-use Rattle.asm_listing.specs.Shown.{bytes_from}
+use Rattle.asm_listing.specs.Raw.{bytes_from}
 use Rattle.vip_byte.specs.HexText.{hex2}
 use Rattle.asm_listing.proofs.Listings.{digits-none, digits-more}
 use Rattle.asm_listing.proofs.source_listing.append_digits.Goals as goal

@@ -1,6 +1,6 @@
 use Rattle.std.proofs.Common.{◌≡◌, ◌-◌, ◌++◌}
 use Rattle.asm_listing.specs.Listing.{digits_of}
-use Rattle.asm_listing.specs.Shown.{bytes_from}
+use Rattle.asm_listing.specs.Raw.{bytes_from}
 use Rattle.asm_listing.proofs.source_listing.append_digits.Given as goal
 
 -- the first of them are appended

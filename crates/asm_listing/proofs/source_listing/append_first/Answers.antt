@@ -1,7 +1,7 @@
 use Rattle.std.proofs.Common.{◌≡◌, ◌-◌, ◌*◌, ◌++◌, min, ap, ◌∙◌, arith}
 use Rattle.std.proofs.lemmas.List.{append_assoc}
 use Rattle.asm_listing.specs.Listing.{blanks, digits_of}
-use Rattle.asm_listing.specs.Shown.{bytes_from}
+use Rattle.asm_listing.specs.Raw.{bytes_from}
 use Rattle.asm_listing.proofs.Texts.{on_ok}
 use Rattle.asm_listing.proofs.Listings.{first-bytes}
 use Rattle.asm_listing.proofs.source_listing.append_first.Goals as goal

@@ -1,6 +1,6 @@
 use Rattle.std.proofs.Common.{◌≡◌, ◌+◌, ◌-◌, ◌/◌, ◌++◌, length, sym, ap, ◌∙◌, arith}
 use Rattle.asm_listing.specs.Listing.{further_line}
-use Rattle.asm_listing.specs.Shown.{bytes_from}
+use Rattle.asm_listing.specs.Raw.{bytes_from}
 use Rattle.asm_listing.proofs.Listings.{length-bytes, further-none, further-more, further-all}
 use Rattle.asm_listing.proofs.source_listing.append_further.Goals as goal
 

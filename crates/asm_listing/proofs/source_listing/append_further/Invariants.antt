@@ -2,7 +2,7 @@ use Rattle.std.proofs.Common.{◌≡◌, ◌≤◌, ◌+◌, ◌-◌, ◌/◌, �
 use Rattle.std.specs.Prelude.{flat_map}
 use Rattle.std.specs.List.{range_with_len}
 use Rattle.asm_listing.specs.Listing.{further_line}
-use Rattle.asm_listing.specs.Shown.{bytes_from}
+use Rattle.asm_listing.specs.Raw.{bytes_from}
 use Rattle.asm_listing.proofs.source_listing.append_further.Given as goal
 
 -- the first of these lines are appended

@@ -2,7 +2,7 @@ use Rattle.std.proofs.Common.{◌≡◌, ◌+◌, ◌-◌, ◌*◌, ◌++◌, []
 use Rattle.vip_byte.specs.HexText.{hex4}
 use Rattle.vip_byte.specs.Text.{newline}
 use Rattle.asm_listing.specs.Listing.{blanks, digits_of, three_at}
-use Rattle.asm_listing.specs.Shown.{bytes_from}
+use Rattle.asm_listing.specs.Raw.{bytes_from}
 use Rattle.asm_listing.proofs.Texts.{on_ok, all_appended}
 use Rattle.asm_listing.proofs.Listings.{three-bytes}
 use Rattle.asm_listing.proofs.source_listing.append_further_line.Goals as goal

@@ -1,7 +1,8 @@
 use Rattle.std.proofs.Common.{◌≡◌, ◌++◌, [], ◌∷◌, ℕ, List, ap, ◌∙◌}
 use Rattle.vip_byte.specs.Text.{newline}
 use Rattle.asm_listing.specs.Listing.{label_text, number_text, first_digits, further_lines, line_listing}
-use Rattle.asm_listing.specs.Shown.{byte_count, bytes_from}
+use Rattle.asm_listing.specs.Raw.{bytes_from}
+use Rattle.asm_listing.specs.Shown.{byte_count}
 use Rattle.asm_listing.proofs.Texts.{on_ok, all_appended}
 use Rattle.asm_listing.proofs.Listings.{line-parts}
 use Rattle.asm_listing.proofs.source_listing.append_line.Goals as goal

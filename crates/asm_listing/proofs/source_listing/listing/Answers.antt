@@ -3,7 +3,8 @@ use Rattle.asm_core.specs.Sources.{source_lines}
 use Rattle.asm_core.specs.declared.assembly.LinePlace.{LinePlace}
 use Rattle.asm_core.proofs.PassOne.{line_here, no_line}
 use Rattle.asm_listing.specs.Listing.{line_listing, listed, lines_text, symbols_text}
-use Rattle.asm_listing.specs.Shown.{byte_count, bytes_from}
+use Rattle.asm_listing.specs.Raw.{bytes_from}
+use Rattle.asm_listing.specs.Shown.{byte_count}
 use Rattle.asm_listing.proofs.Listings.{lines-start, lines-more, line-listed, place_fits}
 use Rattle.asm_listing.proofs.source_listing.listing.Goals as goal
 
