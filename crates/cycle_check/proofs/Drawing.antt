@@ -5,7 +5,7 @@ use Rattle.std.specs.Option.{option_map_or, option_or}
 use Rattle.std.specs.Prelude.{IfSome, MatchOption, slice_set}
 use Rattle.std.proofs.lemmas.Bool.{cases_Bool, cases_eq, cases_lt, eqb-true, eq-eqb, ne_eqb}
 use Rattle.std.proofs.lemmas.Grind.{get_or-set_at}
-use Rattle.std.proofs.lemmas.List.{get_or_past, get_or-replicate, get_or-set_other, length-replicate, length-set, map-append}
+use Rattle.std.proofs.lemmas.List.{get_or_append_left, get_or_past, get_or_push, get_or-replicate, get_or-set_other, length-replicate, length-set, length_push, map-append}
 use Rattle.std.proofs.lemmas.List.Elements.{All-map, All-push}
 use Rattle.std.proofs.lemmas.List.Folds.{find-append}
 use Rattle.std.proofs.lemmas.List.Sorted.{IsNonDecreasingBy-push}
@@ -26,7 +26,7 @@ use Rattle.cycle_check.specs.Forward.{AreDrawn, AreHeld, AreHeldFrom, AreMade, A
 use Rattle.cycle_check.specs.Obstacles.{AreReached, FitsReached, HasLine, IsOneOf, IsReached, IsWay, Reached, without_costs}
 use Rattle.cycle_check.specs.Obstacles.Reached.{Reaches, Starts}
 use Rattle.cycle_check.proofs.Leading.{fits-common, fits-none}
-use Rattle.cycle_check.specs.Reading.{AreRising}
+use Rattle.cycle_check.specs.Reading.{AreRising, AreStrict}
 use Rattle.cycle_check.proofs.Lookup.{address_of-found, line_at-none}
 use Rattle.cycle_check.proofs.Raised.{none_least}
 
@@ -88,12 +88,24 @@ common_none None given none = refl
 common_none (Some x) given none = cc
 
 -- what holds of all lines holds of the one that has an address
-found_all : (P : Line → Type 0) (lines : List Line) (a : ℕ) (line : Line) → line_at lines a ≡ Some line → All P lines → P line
+pub found_all : (P : Line → Type 0) (lines : List Line) (a : ℕ) (line : Line) → line_at lines a ≡ Some line → All P lines → P line
 found_all P [] a line found all = cc
 found_all P (first ∷ lines) a line found all = elim (cases_Bool (eqb first.address a)) [
   | inl same ↦ let is : Some first ≡ Some line = rw same at found in subst P (same_Some first line is) (all 0 first (omega arith))
   | inr other ↦ found_all P lines a line (rw other at found) (λ i d within. all (suc i) d (omega arith))
 ]
+
+-- a line with a greater address behind lines
+strict_push : (lines : List Line) (line : Line) → AreStrict lines → All (λ l. l.address < line.address) lines → AreStrict (lines ++ line ∷ [])
+strict_push lines line strict below i j d less lt =
+    let within : j < length lines + 1 = rw length_push at lt in
+    elim (cases_lt j (length lines)) [
+      | inl before ↦
+          rw (get_or_append_left lines (line ∷ []) d i (omega (arith, less, before)), get_or_append_left lines (line ∷ []) d j before) (strict i j d less before)
+      | inr behind ↦
+          let last : length lines ≡ j = omega (arith, within, behind) in
+          rw (get_or_append_left lines (line ∷ []) d i (omega (arith, less, last)), get_or_push lines line d j last) (below i d (omega (arith, less, last)))
+    ]
 
 module _ (rom : List ℕ) (bound : Bound) where
   abbrev pub Inside : ℕ → Type 0
@@ -339,6 +351,7 @@ module _ (rom : List ℕ) (bound : Bound) (places : List (Option Line)) where
   -- the lines of so many places, in order, with any STEPs and no BASE
   pub record AreListed (count : ℕ) (lines : List Line) : Type 0 where
     pub rising : AreRising lines
+    pub strict : AreStrict lines
     pub low : All (λ line. line.address < 0x8000 + count) lines
     pub none : All (λ line. line.base ≡ 0) lines
     pub same : (address : ℕ) → 0x8000 ≤ address → address < 0x8000 + count → line_at (map without_costs lines) address ≡ drawn_at places address
@@ -346,6 +359,7 @@ module _ (rom : List ℕ) (bound : Bound) (places : List (Option Line)) where
 
   pub listed_none : AreListed 0 []
   listed_none = record {
+    strict = λ i j d less lt. absurd (omega (arith, lt));
     rising = λ i j d le lt. absurd (omega (arith, lt));
     low = λ i d within. absurd (omega (arith, within));
     none = λ i d within. absurd (omega (arith, within));
@@ -365,6 +379,7 @@ module _ (rom : List ℕ) (bound : Bound) (places : List (Option Line)) where
     pub listed_skip : get_or places count None ≡ None → AreListed (count + 1) lines
     listed_skip none = record {
       rising = h.rising;
+      strict = h.strict;
       low = λ i d within. omega (arith, h.low i d within);
       none = h.none;
       same = λ address low high. elim (cases_lt address (0x8000 + count)) [
@@ -412,6 +427,7 @@ module _ (rom : List ℕ) (bound : Bound) (places : List (Option Line)) where
         rising =
             IsNonDecreasingBy-push (λ (l : Line). l.address) lines stepped h.rising
             (λ d some. omega (arith, h.low (length lines - 1) d (omega (arith, some)), address_is));
+        strict = strict_push lines stepped h.strict (λ i d within. omega (arith, h.low i d within, address_is));
         low = All-push (λ (l : Line). l.address < 0x8000 + (count + 1)) lines stepped (λ i d low. omega (arith, h.low i d low)) (omega (arith, address_is));
         none = All-push (λ (l : Line). l.base ≡ 0) lines stepped h.none base_is;
         same = λ address low high. rw grown (same_there address low high);
@@ -425,6 +441,7 @@ module _ (rom : List ℕ) (bound : Bound) (places : List (Option Line)) where
   pub listed_all : (lines : List Line) → AreDrawn rom bound places → AreWhole rom bound places → AreListed 2048 lines → AreMade rom bound lines
   listed_all lines drawn whole h = record {
     rising = h.rising;
+    strict = h.strict;
     of_ways = reached_lines rom bound places drawn whole (map without_costs lines) (λ address inside. h.same address inside.0 (omega (arith, inside.1))) h.listed;
     least = none_least rom bound lines h.none;
   }

@@ -12,3 +12,5 @@ pub mod Leading
 pub mod Raised
 pub mod Appends
 mod Tried
+pub mod Leveled
+pub mod Unpaid

@@ -18,7 +18,7 @@ use Rattle.cycle_check.specs.Closed.{admits, counter_after, fits_x, holds_at, in
 use Rattle.cycle_check.specs.Table.{x_after}
 use Rattle.cycle_check.specs.Forward.{AreMade}
 use Rattle.cycle_check.specs.Obstacles.{AreClosed, AreLeast, AreReached, with_base, with_bases, without_costs}
-use Rattle.cycle_check.specs.Reading.{AreRising}
+use Rattle.cycle_check.specs.Reading.{AreRising, AreStrict}
 use Rattle.cycle_check.proofs.Below.{passes_all, passes_at}
 
 -- ---- lines with other BASEs
@@ -166,12 +166,18 @@ module _ (rom : List ℕ) (bound : Bound) where
         let low : j < length lines = rw length-set at lt in
         rw (at_raised i e (omega (arith, le, low)), at_raised j e low) (rising i j e le low)
 
+    raised_strict : AreStrict lines → AreStrict (set lines place raised)
+    raised_strict strict i j e less lt =
+        let low : j < length lines = rw length-set at lt in
+        rw (at_raised i e (omega (arith, less, low)), at_raised j e low) (strict i j e less low)
+
     pub raised_made : AreMade rom bound lines
         → is_closed bound lines (record (get_or lines place d) { base = to - 1 }) (instruction_at rom (get_or lines place d).address) ≡ false
         → AreMade rom bound (set lines place raised)
     raised_made made asks =
         record {
           rising = raised_rising made.rising;
+          strict = raised_strict made.strict;
           of_ways = subst (AreReached rom bound) (sym (map-set_same without_costs lines place raised d refl)) made.of_ways;
           least = raised_least made.least asks;
         }

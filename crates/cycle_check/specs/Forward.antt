@@ -14,9 +14,9 @@ use Rattle.cycle_check.specs.declared.known.Knowledge.{Knowledge}
 use Rattle.cycle_check.specs.declared.table.When.{When}
 use Rattle.cycle_check.specs.declared.table.Way.{Way}
 use Rattle.cycle_check.specs.Table.{x_after}
-use Rattle.cycle_check.specs.Closed.{fits_x, instruction_at, is_shown, lets_through}
-use Rattle.cycle_check.specs.Obstacles.{AreLeast, AreOfWays, FitsAll, IsLed, IsLost, IsOneOf, IsReached, IsWay, without_costs}
-use Rattle.cycle_check.specs.Reading.{AreRising}
+use Rattle.cycle_check.specs.Closed.{fits_x, instruction_at, is_closed, is_shown, lets_through}
+use Rattle.cycle_check.specs.Obstacles.{AreLeast, AreOfWays, FitsAll, IsLed, IsLost, IsOneOf, IsReached, IsWay, level_step, without_costs}
+use Rattle.cycle_check.specs.Reading.{AreRising, AreStrict}
 
 -- ---- what is known
 
@@ -153,5 +153,16 @@ module _ (rom : List ℕ) (bound : Bound) (places : List (Option Line)) where
 -- in order, of the addresses that are reached, and with no BASE above the least
 pub record AreMade (rom : List ℕ) (bound : Bound) (lines : List Line) : Type 0 where
   pub rising : AreRising lines
+  pub strict : AreStrict lines
   pub of_ways : AreOfWays rom bound lines
   pub least : AreLeast rom bound lines
+
+-- a line with one STEP for all and no BASE
+abbrev pub level : Line → Line
+level line = record line { base = 0; step = level_step }
+
+-- the line at a place isn't closed
+pub record IsOpenAt (rom : List ℕ) (bound : Bound) (lines : List Line) (place : ℕ) (line : Line) : Type 0 where
+  pub within : place < length lines
+  pub there : (d : Line) → slice_index_or lines place d ≡ line
+  pub asks : is_closed bound lines line (instruction_at rom line.address) ≡ false

@@ -1,5 +1,5 @@
 -- Why no certificate of a routine was found.
-use Rattle.std.specs.Prelude.{◌≡◌, ℕ, ◌+◌, ◌%◌, ◌<◌, ◌≤◌, ◌==◌, ◌&&◌, ◌⊎◌, Bool, true, false, List, length, map, slice_index, Option, Some, None}
+use Rattle.std.specs.Prelude.{◌≡◌, ℕ, ◌+◌, ◌%◌, ◌<◌, ◌≤◌, ◌==◌, ◌&&◌, ◌⊎◌, Bool, true, false, List, length, map, slice_index, IfSome, Option, Some, None}
 use Rattle.std.specs.List.{All, Any}
 use Rattle.machine.specs.declared.Kind.{Kind}
 use Rattle.machine.specs.declared.Kind.TheVariants.{Inc, Dec, Lda, Plo}
@@ -7,6 +7,7 @@ use Rattle.cycle_check.specs.declared.grammar.Bound.{Bound}
 use Rattle.cycle_check.specs.declared.grammar.Fact.{Fact}
 use Rattle.cycle_check.specs.declared.grammar.Fact.TheVariants as says
 use Rattle.cycle_check.specs.declared.grammar.Line.{Line}
+use Rattle.cycle_check.specs.declared.closed.Instruction.{Instruction}
 use Rattle.cycle_check.specs.declared.table.Way.{Way}
 use Rattle.cycle_check.specs.Table.{x_after}
 use Rattle.cycle_check.specs.Certificate.{most_left}
@@ -25,12 +26,42 @@ abbrev pub takes_one : Kind → Bool
 takes_one Dec = true
 takes_one _ = false
 
+-- a fact says that the counter isn't 0
+abbrev pub says_some : Fact → Bool
+says_some says.NonZero = true
+says_some fact = false
+
+-- the counter is one less behind a line, whatever it is there
+abbrev pub takes_counter : Bound → Line → Instruction → Bool
+takes_counter bound line i = takes_one i.op.kind && i.op.n == bound.k && says_some line.fact
+
+-- three cycles for each address of the ROM; and, with this STEP, what ways cost at most that come to no address twice: 2,048 * (3 + 255 * 6,144) is less
+abbrev pub level_step : ℕ
+level_step = 6_144
+
+abbrev pub most_straight : ℕ
+most_straight = 4_000_000_000
+
+-- each line has a BASE that a certificate may say, and a STEP
+abbrev pub HasLowBase : List Line → ℕ → Type 0
+HasLowBase lines address = IfSome (line_at lines address) (λ line. line.base ≤ most_left)
+
+abbrev pub AreLowSteps : List Line → Type 0
+AreLowSteps lines = All (λ line. line.step ≤ most_left) lines
+
 -- lines with other BASEs, by their addresses
 abbrev pub with_base : (ℕ → ℕ) → Line → Line
 with_base base line = record line { base = base line.address }
 
 abbrev pub with_bases : (ℕ → ℕ) → List Line → List Line
 with_bases base = map (with_base base)
+
+-- lines with other BASEs and STEPs
+abbrev pub with_cost : (ℕ → ℕ) → (ℕ → ℕ) → Line → Line
+with_cost base step line = record line { base = base line.address; step = step line.address }
+
+abbrev pub with_costs : (ℕ → ℕ) → (ℕ → ℕ) → List Line → List Line
+with_costs base step = map (with_cost base step)
 
 -- a line without BASE and STEP
 abbrev pub without_costs : Line → Line
@@ -177,6 +208,39 @@ module _ (rom : List ℕ) (bound : Bound) where
   -- No BASE is greater than that of the same line among closed lines which differ from these in their BASEs alone.
   abbrev pub AreLeast : List Line → Type 0
   AreLeast lines = (base : ℕ → ℕ) → AreClosed (with_bases base lines) → All (λ line. line.base ≤ base line.address) lines
+
+  -- ---- Fact
+
+  -- A way leads from a line to an address, let through by the line's fact. The line takes nothing from the counter: it is no DEC that says that this isn't 0.
+  pub record LeadsUnpaid (lines : List Line) (address to : ℕ) : Type 0 where
+    pub line : Line
+    pub there : line_at lines address ≡ Some line
+    pub unpaid : takes_counter bound line (instruction_at rom address) ≡ false
+    pub way : Way
+    pub is : IsWay rom bound address way to
+    pub through : lets_through line.fact way.when ≡ true
+
+  -- A turn of such ways leads from an address back to it. No BASEs close it, and no STEP, which is one for all lines of the turn: with STEPs that differ along it
+  -- a way might be paid for by what another one asks for less.
+  pub record IsUnpaid (lines : List Line) (address : ℕ) : Type 0 where
+    pub turn : List ℕ
+    pub some : 0 < length turn
+    pub begins : slice_index turn 0 ≡ address
+    pub goes : (i : ℕ) → i < length turn → LeadsUnpaid lines (slice_index turn i) (slice_index turn ((i + 1) % length turn))
+    pub stays_open : (base step : ℕ → ℕ) → ((i : ℕ) → i < length turn → step (slice_index turn i) ≡ step address) → AreClosed (with_costs base step lines) → ⊥
+
+  -- the opcode at the address isn't allowed at its line
+  abbrev pub IsBarred : List Line → ℕ → Type 0
+  IsBarred lines address = Any (λ line. (line.address ≡ address) × (is_allowed bound line (instruction_at rom line.address) ≡ false)) lines
+
+  abbrev pub AreAllowed : List Line → Type 0
+  AreAllowed lines = All (λ line. is_allowed bound line (instruction_at rom line.address) ≡ true) lines
+
+  -- All lines have a STEP that pays a turn through all 2,048 addresses, and a BASE of theirs passes what ways can cost that come to no address twice: so there is
+  -- a turn for which no STEP pays.
+  pub record IsGrown (lines : List Line) (address : ℕ) : Type 0 where
+    pub level : All (λ line. line.step ≡ level_step) lines
+    pub more : Any (λ line. (line.address ≡ address) × (most_straight < line.base)) lines
 
   -- ---- Most
 

@@ -1,5 +1,5 @@
 -- A certificate as it is read, line by line.
-use Rattle.std.specs.Prelude.{◌≡◌, ℕ, true, List, [], ◌∷◌, ◌++◌, Option, Some, None, Ok}
+use Rattle.std.specs.Prelude.{◌≡◌, ℕ, ◌<◌, true, List, [], ◌∷◌, ◌++◌, length, slice_index_or, Option, Some, None, Ok}
 use Rattle.std.specs.List.Sorted.{IsNonDecreasingBy}
 use Rattle.vip_byte.specs.Reading.{read}
 use Rattle.cycle_check.specs.declared.grammar.Line.{Line}
@@ -10,6 +10,10 @@ use Rattle.cycle_check.specs.Certificate.{Certificate, certificate_of, certifica
 -- the addresses don't fall
 abbrev pub AreRising : List Line → Type 0
 AreRising lines = IsNonDecreasingBy (λ line. line.address) lines
+
+-- each is above those before it
+abbrev pub AreStrict : List Line → Type 0
+AreStrict lines = (i j : ℕ) (d : Line) → i < j → j < length lines → (slice_index_or lines i d).address < (slice_index_or lines j d).address
 
 -- the certificate with what a line says
 abbrev pub extended : Certificate → Option Statement → Certificate

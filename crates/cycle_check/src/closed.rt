@@ -358,8 +358,8 @@ fn cause_at(rom: &[u8], bound: &Bound, lines: &[Line], line: &Line) -> Option<Ce
     None
 }
 
-/// The first line that can't be relied on, with its place: that of the first line is 1, since the bound's is 0.
-pub fn first_cause(rom: &[u8], bound: &Bound, lines: &[Line]) -> Option<(usize, CertCause)>
+// The first line that can't be relied on, with its place: that of the first line is 1, since the bound's is 0.
+fn first_cause(rom: &[u8], bound: &Bound, lines: &[Line]) -> Option<(usize, CertCause)>
     requires { AreRising lines.now }
     ensures { result ≡ first_from (cause_at rom.now bound.now lines.now) 1 lines.now }
 {

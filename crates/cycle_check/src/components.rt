@@ -18,12 +18,15 @@ pub struct Member {
     rank: usize,
 }
 
-/// The lines of a routine, each component behind those that it leads to; or a turn that isn't counted: addresses each of which leads to the next one,
-/// and the last one to the first.
+/// What is found of a routine. A turn is addresses each of which leads to the next one, and the last one to the first; none where there is no address.
 #[derive(Drop)]
-pub enum Found {
-    Members(Vec<Member>),
-    Turn(Vec<u16>),
+pub struct Found {
+    /// The first turn that isn't counted.
+    pub turn: Vec<u16>,
+    /// The first one that takes nothing from the counter.
+    pub unpaid: Vec<u16>,
+    /// The lines of the routine, each component behind those that it leads to.
+    pub members: Vec<Member>,
 }
 
 // For each place with a line from which ones those were met first to which it leads.
@@ -70,7 +73,7 @@ impl Reach {
     }
 
     // The turn from a place back to it.
-    fn turn_at(&self, alloc: Global, place: u16) -> Result<Found, AllocError> {
+    fn turn_at(&self, alloc: Global, place: u16) -> Result<Vec<u16>, AllocError> {
         let mut turn = Vec::new(alloc);
         let mut at = place;
         for _ in 0..ROM_SIZE {
@@ -84,15 +87,19 @@ impl Reach {
             }
         }
         turn.reverse();
-        Ok(Found::Turn(turn))
+        Ok(turn)
     }
 }
 
-/// Finds the components of a routine, or a turn in it that isn't counted.
+/// Finds the components of a routine, and turns in it that aren't counted.
 pub fn find_components(alloc: Global, graph: &Graph) -> Result<Found, AllocError> {
     let reach = reach_of(alloc, graph, true)?;
     let unpaid = reach_of(alloc, graph, false)?;
-    found_by(alloc, graph, &reach, &unpaid)
+    Ok(Found {
+        turn: first_turn(alloc, graph, &reach, &unpaid)?,
+        unpaid: first_unpaid(alloc, &unpaid)?,
+        members: members_of(alloc, graph, &reach, &unpaid)?,
+    })
 }
 
 // By all ways, or only by those of lines that don't take from the counter.
@@ -104,33 +111,34 @@ fn reach_of(alloc: Global, graph: &Graph, counts: bool) -> Result<Reach, AllocEr
     Ok(Reach { sources })
 }
 
-// The turn that isn't counted whose place is the first, or the lines where there is none.
-fn found_by(
+// The turn that isn't counted whose place is the first: it takes nothing from the counter, or assigns it otherwise.
+fn first_turn(
     alloc: Global,
     graph: &Graph,
     reach: &Reach,
     unpaid: &Reach,
-) -> Result<Found, AllocError> {
-    match first_turn(graph, reach, unpaid) {
-        Some((place, true)) => reach.turn_at(alloc, place),
-        Some((place, false)) => unpaid.turn_at(alloc, place),
-        None => members_of(alloc, graph, reach, unpaid),
-    }
-}
-
-// The first place from which a turn that isn't counted leads back to it, and whether the turn may take from the counter.
-fn first_turn(graph: &Graph, reach: &Reach, unpaid: &Reach) -> Option<(u16, bool)> {
+) -> Result<Vec<u16>, AllocError> {
     for place in 0..PLACES {
         if let Some(node) = graph.node(place) {
             if unpaid.leads(place, place) {
-                return Some((place, false));
+                return unpaid.turn_at(alloc, place);
             }
             if node.assigns && reach.leads(place, place) {
-                return Some((place, true));
+                return reach.turn_at(alloc, place);
             }
         }
     }
-    None
+    Ok(Vec::new(alloc))
+}
+
+// The turn that takes nothing from the counter whose place is the first.
+fn first_unpaid(alloc: Global, unpaid: &Reach) -> Result<Vec<u16>, AllocError> {
+    for place in 0..PLACES {
+        if unpaid.leads(place, place) {
+            return unpaid.turn_at(alloc, place);
+        }
+    }
+    Ok(Vec::new(alloc))
 }
 
 // The lines in the order in which costs are found.
@@ -139,7 +147,7 @@ fn members_of(
     graph: &Graph,
     reach: &Reach,
     unpaid: &Reach,
-) -> Result<Found, AllocError> {
+) -> Result<Vec<Member>, AllocError> {
     let mut members = Vec::new(alloc);
     for place in 0..PLACES {
         if let Some(node) = graph.node(place) {
@@ -153,5 +161,5 @@ fn members_of(
         }
     }
     members.sort_unstable_by(|a, b| a.component.cmp(&b.component).then(a.rank.cmp(&b.rank)));
-    Ok(Found::Members(members))
+    Ok(members)
 }

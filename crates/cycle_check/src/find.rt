@@ -1,16 +1,17 @@
 //! A certificate that is found for a routine.
 
-ghost use Rattle.std.specs.Prelude.{◌≡◌, ◌<◌, ◌≤◌, ◌≢◌, true, false, length, IfOk, IfErr, IfSome, OnOk, None, Some};
+ghost use Rattle.std.specs.Prelude.{◌≡◌, ℕ, ◌<◌, ◌≤◌, ◌≢◌, true, false, length, IfOk, IfErr, MatchOption, OnOk, None, Some};
 ghost use Rattle.std.specs.List.{All};
 ghost use Rattle.cycle_check.specs.Forward.{AreDrawn, AreMade, AreWhole, IsTrueOf};
-ghost use Rattle.cycle_check.specs.Closed.{fault_in};
-ghost use Rattle.cycle_check.specs.Found.{HasLimit, IsCertificate, IsFound, IsFoundFrom, IsTimingFault, leaves_rom, timing_text};
-ghost use Rattle.cycle_check.specs.Obstacles.{IsLed, IsMost};
+ghost use Rattle.cycle_check.specs.Closed.{fault_in, left, line_at};
+ghost use Rattle.cycle_check.specs.Found.{HasLimit, IsCertificate, IsFound, IsFoundFrom, IsTimingFault, leaves_rom, left_at_entry, timing_text};
+ghost use Rattle.cycle_check.specs.declared.grammar.Line.{Line};
+ghost use Rattle.cycle_check.specs.Obstacles.{AreAllowed, AreClosed, AreLowSteps, HasLowBase, IsBarred, IsMost};
 ghost use Rattle.cycle_check.specs.Reading.{AreRising, IsRead};
 
 use crate::certificate::{Draft, read_certificate};
-use crate::closed::{fault_in, first_cause, left, line_at};
-use crate::components::{Found, find_components};
+use crate::closed::{fault_in, instruction_at, is_allowed, left, line_at};
+use crate::components::find_components;
 use crate::cost::find_costs;
 use crate::drawn::{draw, drawn_at};
 use crate::exits::{Exit, all_leave_rom, exits_of};
@@ -18,7 +19,8 @@ use crate::fault::{CertFault, TimingCause, TimingFault, obstacle};
 use crate::forward::{Forward, ROM_SIZE, explore};
 use crate::grammar::{Bound, Line, MOST_LEFT};
 use crate::graph::{Graph, graph_of};
-use crate::least::raise_all;
+use crate::least::{first_open, grow, leveled, raise_all};
+use crate::turn::is_unpaid;
 use crate::write::text_of;
 use std::alloc::{AllocError, Global};
 use vip_byte::MOST_TEXT;
@@ -63,66 +65,67 @@ fn find_in(alloc: Global, forward: &Forward) -> Result<Vec<u8>, TimingFault>
     let drawn = draw(alloc, forward)?;
     let places = drawn.as_slice();
     let mut graph = graph_of(alloc, forward.rom, &forward.bound, places)?;
-    let turn = settle_costs(alloc, forward, &mut graph)?;
-    let lines = lines_with(alloc, forward, places, &mut graph, turn.is_none())?;
-    certify(
-        alloc,
-        forward,
-        lines.as_slice(),
-        turn.unwrap_or(forward.bound.entry),
-    )
+    let found = find_components(alloc, &graph)?;
+    let bare = lines_of(alloc, forward, places, &graph)?;
+    pass_turn(forward, bare.as_slice(), found.turn.as_slice())?;
+    pass_turn(forward, bare.as_slice(), found.unpaid.as_slice())?;
+    find_costs(&mut graph, found.members.as_slice());
+    let lines = lines_of(alloc, forward, places, &graph)?;
+    settle(alloc, forward, &mut graph, lines)
 }
 
-// The lines of a routine by their place, with their BASEs where the graph has their STEPs.
-fn lines_with(
-    alloc: Global,
-    forward: &Forward,
-    places: &[Option<Line>],
-    graph: &mut Graph,
-    settled: bool,
-) -> Result<Vec<Line>, AllocError>
-    requires drawn { AreDrawn forward.now.rom.now forward.now.bound places.now }
-    requires whole { AreWhole forward.now.rom.now forward.now.bound places.now }
-    ensures { IfOk result (λ lines. AreMade forward.now.rom.now forward.now.bound lines.items) }
-{
-    let mut lines = lines_of(alloc, forward, places, graph)?;
-    if !settled {
-        return Ok(lines);
-    }
-    raise_all(forward.rom, &forward.bound, graph, &mut lines);
-    Ok(lines)
-}
-
-// Finds the STEP of each line; or an address of a turn that isn't counted as the lines say it.
-fn settle_costs(
-    alloc: Global,
-    forward: &Forward,
-    graph: &mut Graph,
-) -> Result<Option<u16>, TimingFault>
-    requires { IsTrueOf forward.now }
-    ensures { IfErr result (IsTimingFault forward.now.rom.now forward.now.bound) }
-{
-    match find_components(alloc, graph)? {
-        Found::Turn(turn) => Ok(Some(first_of(forward, turn.as_slice())?)),
-        Found::Members(members) => {
-            find_costs(graph, members.as_slice());
-            Ok(None)
-        }
-    }
-}
-
-// The first address of a turn; or that the turn isn't counted, whatever the lines say.
-fn first_of(forward: &Forward, turn: &[u16]) -> Result<u16, TimingFault>
-    requires { IsTrueOf forward.now }
+// Passes a turn; or says that it isn't counted, whatever the lines say, or isn't paid for as they say it.
+fn pass_turn(forward: &Forward, lines: &[Line], turn: &[u16]) -> Result<(), TimingFault>
+    requires true_of { IsTrueOf forward.now }
+    requires made { AreMade forward.now.rom.now forward.now.bound lines.now }
     ensures { IfErr result (IsTimingFault forward.now.rom.now forward.now.bound) }
 {
     match turn {
         [address, ..] if forward.is_uncounted(turn) => {
             Err(obstacle(forward.rom, TimingCause::Loop, *address))
         }
-        [address, ..] => Ok(*address),
-        [] => Ok(forward.bound.entry),
+        [address, ..] if is_unpaid(forward.rom, &forward.bound, lines, turn) => {
+            Err(obstacle(forward.rom, TimingCause::Fact, *address))
+        }
+        _ => Ok(()),
     }
+}
+
+// Finds the BASEs of lines with their STEPs. Where these don't pay for all turns, one STEP that pays for each turn that can be paid for does; or there is one that
+// can't.
+fn settle(
+    alloc: Global,
+    forward: &Forward,
+    graph: &mut Graph,
+    mut lines: Vec<Line>,
+) -> Result<Vec<u8>, TimingFault>
+    requires { AreMade forward.now.rom.now forward.now.bound lines.items }
+    ensures found { IfOk result (λ text. IsFoundFrom forward.now.rom.now forward.now.bound text.items) }
+    ensures fits { IfOk result (λ text. length text.items ≤ MOST_TEXT) }
+    ensures fault { IfErr result (IsTimingFault forward.now.rom.now forward.now.bound) }
+{
+    raise_all(forward.rom, &forward.bound, graph, &mut lines);
+    let settled = lines.as_slice();
+    if first_open(forward.rom, &forward.bound, settled).is_none() && have_low_steps(settled) {
+        return certify(alloc, forward, settled);
+    }
+    let mut level = leveled(alloc, settled)?;
+    match grow(forward.rom, &forward.bound, graph, &mut level) {
+        Some(address) => Err(obstacle(forward.rom, TimingCause::Fact, address)),
+        None => certify(alloc, forward, level.as_slice()),
+    }
+}
+
+// Whether each line has a STEP that a certificate may say.
+fn have_low_steps(lines: &[Line]) -> bool
+    ensures { result ≡ true → AreLowSteps lines.now }
+{
+    for line in lines {
+        if u64::from(line.step) > MOST_LEFT {
+            return false;
+        }
+    }
+    true
 }
 
 // The lines of a routine by their place, with their STEPs by a graph and no BASE.
@@ -158,74 +161,89 @@ fn with_step(graph: &Graph, line: Line) -> Line
     }
 }
 
-// The text of a certificate with these lines, or what stands against one. Where a turn takes from the counter, and its line can't say that this isn't
-// 0, since it says what D is or a line before it does, the lines are no certificate: that is said of the last address that was looked at.
-fn certify(
-    alloc: Global,
-    forward: &Forward,
-    lines: &[Line],
-    last: u16,
-) -> Result<Vec<u8>, TimingFault>
-    requires true_of { IsTrueOf forward.now }
+// The text of a certificate with closed lines, or what stands against one.
+fn certify(alloc: Global, forward: &Forward, lines: &[Line]) -> Result<Vec<u8>, TimingFault>
     requires made { AreMade forward.now.rom.now forward.now.bound lines.now }
+    requires closed { AreClosed forward.now.rom.now forward.now.bound lines.now }
+    requires steps { AreLowSteps lines.now }
     ensures found { IfOk result (λ text. IsFoundFrom forward.now.rom.now forward.now.bound text.items) }
     ensures fits { IfOk result (λ text. length text.items ≤ MOST_TEXT) }
     ensures fault { IfErr result (IsTimingFault forward.now.rom.now forward.now.bound) }
 {
+    if let Some(address) = barred_in(forward, lines) {
+        return Err(obstacle(forward.rom, TimingCause::Fact, address));
+    }
     if let Some(address) = most_in(forward, lines) {
         return Err(obstacle(forward.rom, TimingCause::Most, address));
     }
+    if forward.bound.p == forward.bound.k {
+        return Err(obstacle(forward.rom, TimingCause::Fact, forward.bound.entry));
+    }
+    write(alloc, forward, lines)
+}
+
+// The same, where nothing stands against the lines.
+fn write(alloc: Global, forward: &Forward, lines: &[Line]) -> Result<Vec<u8>, TimingFault>
+    requires made { AreMade forward.now.rom.now forward.now.bound lines.now }
+    requires closed { AreClosed forward.now.rom.now forward.now.bound lines.now }
+    requires steps { AreLowSteps lines.now }
+    requires allowed { AreAllowed forward.now.rom.now forward.now.bound lines.now }
+    requires bases { (address : ℕ) → HasLowBase lines.now address }
+    requires apart { forward.now.bound.p ≢ forward.now.bound.k }
+    ensures found { IfOk result (λ text. IsFoundFrom forward.now.rom.now forward.now.bound text.items) }
+    ensures fits { IfOk result (λ text. length text.items ≤ MOST_TEXT) }
+    ensures fault { IfErr result (IsTimingFault forward.now.rom.now forward.now.bound) }
+{
     let bound = bound_with(&forward.bound, lines);
     let text = timing_text(alloc, forward.rom, &bound, lines)?;
     let is_found = is_certificate(alloc, forward.rom, &forward.bound, text.as_slice())?;
     if is_found {
         Ok(text)
     } else {
-        Err(obstacle(forward.rom, TimingCause::Fact, led_of(forward, last)))
+        Err(obstacle(forward.rom, TimingCause::Fact, forward.bound.entry))
     }
 }
 
-// An address, if ways lead there, and else the entry.
-fn led_of(forward: &Forward, address: u16) -> u16
-    requires { IsTrueOf forward.now }
-    ensures { IsLed forward.now.rom.now forward.now.bound result }
+// The first address at whose line the opcode isn't allowed.
+fn barred_in(forward: &Forward, lines: &[Line]) -> Option<u16>
+    ensures { MatchOption result (AreAllowed forward.now.rom.now forward.now.bound lines.now)
+        (IsBarred forward.now.rom.now forward.now.bound lines.now) }
 {
-    if forward.is_led(address) {
-        address
-    } else {
-        forward.bound.entry
-    }
-}
-
-// Whether a line has a BASE above what a certificate may say.
-fn is_over(line: &Line) -> bool
-    ensures { result ≡ true → 1000000 < line.now.base }
-{
-    u64::from(line.base) > MOST_LEFT
-}
-
-// The first address whose line has a BASE above that.
-fn most_in(forward: &Forward, lines: &[Line]) -> Option<u16>
-    requires made { AreMade forward.now.rom.now forward.now.bound lines.now }
-    ensures { IfSome result (λ address. IsMost forward.now.rom.now forward.now.bound address) }
-{
-    for line in lines {
-        if is_over(line) && is_most(forward, lines, line.address) {
+    for place in 0..lines.len() {
+        let line = lines[place];
+        let instruction = instruction_at(forward.rom, line.address);
+        if !is_allowed(&forward.bound, &line, &instruction) {
             return Some(line.address);
         }
     }
     None
 }
 
-fn is_most(forward: &Forward, lines: &[Line], address: u16) -> bool
+// The first address whose line has a BASE above what a certificate may say.
+fn most_in(forward: &Forward, lines: &[Line]) -> Option<u16>
     requires made { AreMade forward.now.rom.now forward.now.bound lines.now }
-    ensures { result ≡ true → IsMost forward.now.rom.now forward.now.bound address }
+    requires closed { AreClosed forward.now.rom.now forward.now.bound lines.now }
+    requires allowed { AreAllowed forward.now.rom.now forward.now.bound lines.now }
+    ensures { MatchOption result ((address : ℕ) → HasLowBase lines.now address)
+        (λ address. IsMost forward.now.rom.now forward.now.bound address) }
+{
+    for line in lines {
+        if is_over(lines, line.address) {
+            return Some(line.address);
+        }
+    }
+    None
+}
+
+// Whether the line of an address has a BASE above that.
+fn is_over(lines: &[Line], address: u16) -> bool
+    requires { AreRising lines.now }
+    ensures over { result ≡ true → (line : Line) × (line_at lines.now address ≡ Some line) × (1000000 < line.base) }
+    ensures below { result ≡ false → HasLowBase lines.now address }
 {
     match line_at(lines, u32::from(address)) {
-        Some(line) if is_over(&line) => {
-            first_cause(forward.rom, &forward.bound, lines).is_none()
-        }
-        _ => false,
+        Some(line) => u64::from(line.base) > MOST_LEFT,
+        None => false,
     }
 }
 
@@ -245,17 +263,25 @@ fn timing_text(
 
 // The bound of some lines: what is left at the entry where the counter is greatest is the limit.
 fn bound_with(start: &Bound, lines: &[Line]) -> Bound
-    requires { AreRising lines.now }
-    ensures { result ≡ record start.now { limit = result.limit } }
+    requires rising { AreRising lines.now }
+    requires bases { (address : ℕ) → HasLowBase lines.now address }
+    requires steps { AreLowSteps lines.now }
+    ensures { result ≡ record start.now { limit = left_at_entry start.now lines.now } }
 {
-    let left = match line_at(lines, u32::from(start.entry)) {
-        Some(line) => left(&line, 255),
+    let limit = match line_at(lines, u32::from(start.entry)) {
+        Some(line) => most_at(&line),
         None => 0,
     };
-    Bound {
-        limit: left.min(u64::from(u32::MAX)) as u32,
-        ..*start
-    }
+    Bound { limit, ..*start }
+}
+
+// What is left at a line where the counter is greatest.
+fn most_at(line: &Line) -> u32
+    requires base { line.now.base ≤ 1000000 }
+    requires step { line.now.step ≤ 1000000 }
+    ensures { result ≡ left line.now 255 }
+{
+    line.base + line.step * 255
 }
 
 // Whether a text is a certificate whose exits lead out of the ROM.

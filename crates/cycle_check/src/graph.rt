@@ -3,9 +3,9 @@
 use crate::closed::{Instruction, instruction_at, lets_through, ways_from};
 use crate::drawn::drawn_at;
 use crate::forward::{ROM_SIZE, end_of};
-use crate::grammar::{Bound, Fact, Line};
+use crate::grammar::{Bound, Line};
 use crate::table::{Way, Ways};
-use crate::turn::{assigns_low, takes_one};
+use crate::turn::{assigns_low, takes_counter};
 use arrayvec::ArrayVec;
 use std::alloc::{AllocError, Global};
 
@@ -54,7 +54,7 @@ fn node_of(rom: &[u8], bound: &Bound, line: &Line) -> Node {
     let instruction = instruction_at(rom, line.address);
     let op = instruction.op;
     let assigns = assigns_low(op.kind) && op.n == bound.k;
-    let takes = assigns && takes_one(op.kind) && matches!(line.fact, Fact::NonZero);
+    let takes = takes_counter(bound, line, &instruction);
     Node {
         line: *line,
         instruction,

@@ -3,10 +3,12 @@
 //! All of them begin at 0, and one is raised only to a BASE that no lesser one can stand for before the lines as they are. So none is ever above that of closed
 //! lines with these facts and STEPs: where no line asks for more, each is the least that there is.
 
-ghost use Rattle.std.specs.Prelude.{◌≡◌, ◌-◌, ◌<◌, true, false, length, slice_index_or, IfSome};
+ghost use Rattle.std.specs.List.{All};
+ghost use Rattle.std.specs.Prelude.{◌≡◌, ◌-◌, ◌<◌, ◌≤◌, true, false, length, map, slice_index_or, IfOk, IfSome, MatchOption};
 ghost use Rattle.cycle_check.specs.declared.grammar.Line.{Line};
 ghost use Rattle.cycle_check.specs.Closed.{instruction_at, is_closed};
-ghost use Rattle.cycle_check.specs.Forward.{AreMade};
+ghost use Rattle.cycle_check.specs.Forward.{AreMade, IsOpenAt, level};
+ghost use Rattle.cycle_check.specs.Obstacles.{AreClosed, AreLowSteps, IsGrown, level_step, most_straight};
 ghost use Rattle.cycle_check.specs.Reading.{AreRising};
 
 use crate::closed::{instruction_at, is_closed};
@@ -14,6 +16,13 @@ use crate::cost::{base_of, set_costs};
 use crate::forward::ROM_SIZE;
 use crate::grammar::{Bound, Line};
 use crate::graph::Graph;
+use std::alloc::{AllocError, Global};
+
+/// A STEP that pays a turn through all addresses of the ROM.
+const LEVEL_STEP: u32 = 6_144;
+
+/// With it, more than ways cost that come to no address twice.
+const MOST_STRAIGHT: u32 = 4_000_000_000;
 
 /// Raises BASEs of lines, and of a graph of them whose turns are all paid for, until no line asks for more: each round takes what is asked for over one more
 /// line.
@@ -104,4 +113,68 @@ fn is_needed(rom: &[u8], bound: &Bound, lines: &[Line], line: &Line, base: u32) 
         ..*line
     };
     !is_closed(bound, lines, &less, &instruction_at(rom, line.address))
+}
+
+/// The first line that isn't closed, with its place.
+pub fn first_open(rom: &[u8], bound: &Bound, lines: &[Line]) -> Option<(usize, Line)>
+    requires { AreRising lines.now }
+    ensures { MatchOption result (AreClosed rom.now bound.now lines.now) (λ found. IsOpenAt rom.now bound.now lines.now found.0 found.1) }
+{
+    for place in 0..lines.len() {
+        let line = lines[place];
+        if !is_closed(bound, lines, &line, &instruction_at(rom, line.address)) {
+            return Some((place, line));
+        }
+    }
+    None
+}
+
+/// Lines with one STEP that pays each turn which can be paid for, and no BASE.
+pub fn leveled(alloc: Global, lines: &[Line]) -> Result<Vec<Line>, AllocError>
+    ensures { IfOk result (λ made. made.items ≡ map level lines.now) }
+{
+    let mut made = Vec::new(alloc);
+    for line in lines {
+        made.push(Line {
+            base: 0,
+            step: LEVEL_STEP,
+            ..*line
+        })?;
+    }
+    Ok(made)
+}
+
+/// Raises BASEs of lines with that STEP until they are closed; or one of them passes what ways cost that come to no address twice, which its address tells.
+pub fn grow(rom: &[u8], bound: &Bound, graph: &mut Graph, lines: &mut Vec<Line>) -> Option<u16>
+    requires made { AreMade rom.now bound.now lines.old.items }
+    requires level { All (λ line. line.step ≡ level_step) lines.old.items }
+    ensures made { AreMade rom.now bound.now lines.new.items }
+    ensures steps { AreLowSteps lines.new.items }
+    ensures grown { MatchOption result (AreClosed rom.now bound.now lines.new.items) (λ address. IsGrown rom.now bound.now lines.new.items address) }
+{
+    lower_all(graph, lines.as_slice());
+    while let Some((place, line)) = first_open(rom, bound, lines.as_slice()) {
+        if line.base > MOST_STRAIGHT {
+            return Some(line.address);
+        }
+        let base = raised(rom, bound, graph, lines.as_slice(), &line);
+        set_costs(graph, place_of(&line), base, line.step);
+        lines[place] = Line { base, ..line };
+    }
+    None
+}
+
+// The BASE that a line needs that isn't closed: what it asks for, or one more.
+fn raised(rom: &[u8], bound: &Bound, graph: &Graph, lines: &[Line], line: &Line) -> u32
+    requires rising { AreRising lines.now }
+    requires low { line.now.base ≤ most_straight }
+    requires unclosed { is_closed bound.now lines.now line.now (instruction_at rom.now line.now.address) ≡ false }
+    ensures more { line.now.base < result }
+    ensures needed { is_closed bound.now lines.now (record line.now { base = result - 1 }) (instruction_at rom.now line.now.address) ≡ false }
+{
+    let asked = asked_by(graph, line);
+    if asked > line.base && is_needed(rom, bound, lines, line, asked) {
+        return asked;
+    }
+    line.base + 1
 }

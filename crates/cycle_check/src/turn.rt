@@ -3,10 +3,12 @@
 ghost use Rattle.std.specs.Prelude.{◌≡◌, ℕ, ◌+◌, ◌<◌, ◌≤◌, ◌%◌, true, false, length, slice_index, Some};
 ghost use Rattle.std.specs.List.{All, Any};
 ghost use Rattle.cycle_check.specs.Forward.{IsTrueOf};
-ghost use Rattle.cycle_check.specs.Obstacles.{IsUncounted, LeadsOn, MayRaise, assigns_counter, assigns_low, takes_one};
+ghost use Rattle.cycle_check.specs.Obstacles.{IsUncounted, IsUnpaid, LeadsOn, LeadsUnpaid, MayRaise, assigns_counter, assigns_low, says_some, takes_counter, takes_one};
+ghost use Rattle.cycle_check.specs.Reading.{AreRising};
 
-use crate::closed::{instruction_at, is_open, ways_from};
+use crate::closed::{Instruction, instruction_at, is_open, lets_through, line_at, ways_from};
 use crate::forward::Forward;
+use crate::grammar::{Bound, Fact, Line};
 use crate::table::Way;
 use vip_isa::Kind;
 
@@ -32,6 +34,68 @@ pub fn takes_one(kind: Kind) -> bool
     ensures { result ≡ takes_one kind }
 {
     matches!(kind, Kind::Dec)
+}
+
+// Whether a fact says that the counter isn't 0.
+fn says_some(fact: Fact) -> bool
+    ensures { result ≡ says_some fact }
+{
+    matches!(fact, Fact::NonZero)
+}
+
+/// Whether the counter is one less behind a line, whatever it is there.
+pub fn takes_counter(bound: &Bound, line: &Line, instruction: &Instruction) -> bool
+    ensures { result ≡ takes_counter bound.now line.now instruction.now }
+{
+    let op = instruction.op;
+    takes_one(op.kind) && op.n == bound.k && says_some(line.fact)
+}
+
+// Whether a line's way leads from one address to another one, and the line takes nothing from the counter.
+fn leads_unpaid(rom: &[u8], bound: &Bound, lines: &[Line], address: u16, to: u16) -> bool
+    requires { AreRising lines.now }
+    ensures { result ≡ true → LeadsUnpaid rom.now bound.now lines.now address to }
+{
+    let Some(line) = line_at(lines, u32::from(address)) else {
+        return false;
+    };
+    let instruction = instruction_at(rom, address);
+    if takes_counter(bound, &line, &instruction) {
+        return false;
+    }
+    let ways = ways_from(bound, address, &instruction);
+    if lets_through(line.fact, ways.first.when) && goes_to(ways.first, to) {
+        return true;
+    }
+    match ways.second {
+        Some(second) => lets_through(line.fact, second.when) && goes_to(second, to),
+        None => false,
+    }
+}
+
+// Whether each address of a turn leads so to the next one, and the last to the first.
+fn goes_unpaid(rom: &[u8], bound: &Bound, lines: &[Line], turn: &[u16]) -> bool
+    requires { AreRising lines.now }
+    ensures { result ≡ true → (i : ℕ) → i < length turn.now
+        → LeadsUnpaid rom.now bound.now lines.now (slice_index turn.now i) (slice_index turn.now ((i + 1) % length turn.now)) }
+{
+    for place in 0..turn.len() {
+        if !leads_unpaid(rom, bound, lines, turn[place], turn[(place + 1) % turn.len()]) {
+            return false;
+        }
+    }
+    true
+}
+
+/// Whether lines take nothing from the counter on a turn, so that no BASEs and no STEP close it.
+pub fn is_unpaid(rom: &[u8], bound: &Bound, lines: &[Line], turn: &[u16]) -> bool
+    requires { AreRising lines.now }
+    ensures { result ≡ true → IsUnpaid rom.now bound.now lines.now (slice_index turn.now 0) }
+{
+    match turn {
+        [_, ..] => goes_unpaid(rom, bound, lines, turn),
+        [] => false,
+    }
 }
 
 impl Forward<'_> {
