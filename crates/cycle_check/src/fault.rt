@@ -78,7 +78,7 @@ pub enum TimingCause {
     Loop,
     /// The least BASE at the address passes 1,000,000.
     Most,
-    /// Ways lead to the address, and the lines that say one fact each of those that are known are no certificate.
+    /// Lines that say one fact each are no certificate: a turn at the address takes nothing from the counter as they say it, or no line is allowed there.
     Fact,
 }
 

@@ -32,8 +32,8 @@ use vip_byte::MOST_TEXT;
 /// From the entry on the ways are followed that what is known of D opens, which finds the facts. The lines are of exactly the addresses to which
 /// ways lead that these facts let through, and each says a fact and the X that all ways there show. A loop has the least STEP that pays its turns,
 /// and each line the least BASE. Where an address is met whose opcode no line allows, where a loop isn't counted, or where a BASE passes 1,000,000,
-/// the answer is that; so it is where one fact a line doesn't suffice, and the lines are no certificate; or memory was wanting. For which routines
-/// one is found is not promised.
+/// the answer is that; so it is where one fact a line doesn't suffice, with an address of a turn that no BASEs and no STEP close for these lines; or
+/// memory was wanting. For which routines one is found is not promised.
 pub fn find_timing(
     alloc: Global,
     rom: &[u8; 2048],
@@ -91,8 +91,8 @@ fn pass_turn(forward: &Forward, lines: &[Line], turn: &[u16]) -> Result<(), Timi
     }
 }
 
-// Finds the BASEs of lines with their STEPs. Where these don't pay for all turns, one STEP that pays for each turn that can be paid for does; or there is one that
-// can't.
+// Finds the BASEs of lines with their STEPs. Where these don't pay for all turns, one STEP does that pays for each turn which can be paid for; or there is
+// one that can't.
 fn settle(
     alloc: Global,
     forward: &Forward,

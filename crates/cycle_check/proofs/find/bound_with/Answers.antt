@@ -4,12 +4,7 @@ use Rattle.cycle_check.specs.Closed.{line_at}
 use Rattle.cycle_check.proofs.Drawing.{found_all}
 use Rattle.cycle_check.proofs.find.bound_with.Goals as goal
 
-pub most_at-requires-clause-base : goal.most_at-requires-clause-base
-most_at-requires-clause-base c =
-    let there : line_at c.args.lines.now c.args.start.now.entry ≡ Some c.in-Some.line = sym c.line_at.ensures ∙ c.in-Some.is in
-    rw there at (c.requires.bases c.args.start.now.entry)
-
-pub most_at-requires-clause-step : goal.most_at-requires-clause-step
-most_at-requires-clause-step c =
+pub most_at-limit-requires-clause-step : goal.most_at-limit-requires-clause-step
+most_at-limit-requires-clause-step c =
     let there : line_at c.args.lines.now c.args.start.now.entry ≡ Some c.in-Some.line = sym c.line_at.ensures ∙ c.in-Some.is in
     found_all (λ (l : Line). l.step ≤ 1000000) c.args.lines.now c.args.start.now.entry c.in-Some.line there c.requires.steps
