@@ -220,8 +220,8 @@ module _ (rom : List ℕ) (bound : Bound) where
     pub is : IsWay rom bound address way to
     pub through : lets_through line.fact way.when ≡ true
 
-  -- A turn of such ways leads from an address back to it. No BASEs close it, and no STEP, which is one for all lines of the turn: with STEPs that differ along it
-  -- a way might be paid for by what another one asks for less.
+  -- A turn of such ways leads from an address back to it. No BASEs close it, and no STEP, which is one for all lines of the turn: with STEPs that differ along
+  -- it, a way might be paid for by what another one asks for less.
   pub record IsUnpaid (lines : List Line) (address : ℕ) : Type 0 where
     pub turn : List ℕ
     pub some : 0 < length turn
@@ -236,8 +236,8 @@ module _ (rom : List ℕ) (bound : Bound) where
   abbrev pub AreAllowed : List Line → Type 0
   AreAllowed lines = All (λ line. is_allowed bound line (instruction_at rom line.address) ≡ true) lines
 
-  -- All lines have a STEP that pays a turn through all 2,048 addresses, and a BASE of theirs passes what ways can cost that come to no address twice: so there is
-  -- a turn for which no STEP pays.
+  -- All lines have a STEP that pays a turn through all 2,048 addresses, and a BASE of theirs passes what ways can cost that come to no address twice: so there
+  -- is a turn for which no STEP pays.
   pub record IsGrown (lines : List Line) (address : ℕ) : Type 0 where
     pub level : All (λ line. line.step ≡ level_step) lines
     pub more : Any (λ line. (line.address ≡ address) × (most_straight < line.base)) lines

@@ -80,7 +80,13 @@ fn goes_unpaid(rom: &[u8], bound: &Bound, lines: &[Line], turn: &[u16]) -> bool
         → LeadsUnpaid rom.now bound.now lines.now (slice_index turn.now i) (slice_index turn.now ((i + 1) % length turn.now)) }
 {
     for place in 0..turn.len() {
-        if !leads_unpaid(rom, bound, lines, turn[place], turn[(place + 1) % turn.len()]) {
+        if !leads_unpaid(
+            rom,
+            bound,
+            lines,
+            turn[place],
+            turn[(place + 1) % turn.len()],
+        ) {
             return false;
         }
     }

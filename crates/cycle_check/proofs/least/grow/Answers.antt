@@ -41,10 +41,9 @@ loop-place-smaller c =
 
 pub loop-place-preserved : goal.loop-place-preserved
 loop-place-preserved c =
-    let here = rw c.as_slice-in-loop-place.ensures.value at c.in-Some.ensures in
-    (
+    let here = rw c.as_slice-in-loop-place.ensures.value at c.in-Some.ensures in (
       raised_there c.args.rom.now c.args.bound.now c.loop-place.lines.items c.in-Some.place c.raised-base.result c.in-Some.line here.within here.there
-      c.loop-place.invariant.0 (rw c.as_slice-in-Some.ensures.value at c.raised-base.ensures.needed),
+          c.loop-place.invariant.0 (rw c.as_slice-in-Some.ensures.value at c.raised-base.ensures.needed),
       raised_steps c.args.rom.now c.args.bound.now c.loop-place.lines.items c.in-Some.place c.raised-base.result c.in-Some.line here c.loop-place.invariant.1,
     )
 
