@@ -36,6 +36,43 @@ pub enum Moved {
     End,
 }
 
+/// The switches of a machine.
+#[derive(Clone, Copy)]
+pub struct Switches {
+    /// Whether the boot latch is set.
+    pub latch: bool,
+    /// Whether the display is on.
+    pub display: bool,
+    /// Whether interrupts are enabled.
+    pub interrupts: bool,
+    /// Whether the processor idles.
+    pub idle: bool,
+}
+
+/// A memory with 2,048 bytes of ROM and 4,096 of RAM, whose boot latch is set or clear.
+fn memory_with(alloc: Global, rom: &[u8], ram: &[u8], latch: bool) -> Result<Memory, AllocError>
+    requires rom { length rom.now ≡ 0x800 }
+    requires ram { length ram.now ≡ 0x1000 }
+    ensures { IfOk result (λ m. m ≡ record { ram = ram.now; rom = rom.now; latch = latch }) }
+{
+    let mut memory = Memory::new(alloc, rom)?;
+    memory.load(0, ram);
+    if !latch {
+        memory.clear_latch();
+    }
+    Ok(memory)
+}
+
+/// A keypad with a key script and a latched key, below 16.
+fn keypad_with(alloc: Global, script: &Script, key: u8) -> Result<Keypad, AllocError>
+    requires { key < 16 }
+    ensures { IfOk result (λ k. k ≡ record { script = script.now; latched = key }) }
+{
+    let mut keypad = Keypad::new(alloc, script)?;
+    keypad.latch(key);
+    Ok(keypad)
+}
+
 /// The byte that a DMA cycle put on the bus.
 fn byte_in(did: Did) -> Option<u8>
     ensures { result ≡ byte_in did }
@@ -123,6 +160,40 @@ impl Board {
         keypad.latch(key);
         let video = Video::at(t);
         let cpu = Cpu::from_parts(parts);
+        Ok(Board {
+            cpu,
+            wires: Wires {
+                memory,
+                video,
+                keypad,
+            },
+        })
+    }
+
+    /// A board that stands at a boundary before machine cycle t, in any machine: with a processor of these parts, a ROM of 2,048 bytes, a key script, 4,096
+    /// bytes of RAM, a latched key, below 16, and these switches; X and P are below 16 too. There is no picture yet.
+    pub fn stand(
+        alloc: Global,
+        rom: &[u8],
+        script: &Script,
+        parts: &Parts,
+        ram: &[u8],
+        key: u8,
+        t: u64,
+        switches: Switches,
+    ) -> Result<Board, AllocError>
+        requires rom { length rom.now ≡ 0x800 }
+        requires ram { length ram.now ≡ 0x1000 }
+        requires key { key < 16 }
+        requires p { parts.now.p < 16 }
+        requires x { parts.now.x < 16 }
+        ensures { IfOk result (λ b. b ≡ record { machine = record { regs = record (regs_of parts.now) { ie = switches.interrupts; idle = switches.idle }; ram = ram.now; latch = switches.latch; on = switches.display; key = key; cycle = t }; phase = Phase.Boundary; pictures = nothing_before t; rom = rom.now; script = script.now }) }
+    {
+        let memory = memory_with(alloc, rom, ram, switches.latch)?;
+        let keypad = keypad_with(alloc, script, key)?;
+        let video = Video::before(t, switches.display);
+        let mut cpu = Cpu::from_parts(parts);
+        cpu.switch(switches.interrupts, switches.idle);
         Ok(Board {
             cpu,
             wires: Wires {

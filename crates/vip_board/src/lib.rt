@@ -22,6 +22,7 @@
 //! - What the video chip has of pictures is what the definition of pictures says of the moves made so far (`specs/Shown.antt`); of a board
 //!   that `restore` made at a later cycle, of the frames whose interrupts start at or after it.
 //! - The registers, RAM and the latched key stay in their ranges.
+//! - `stand` makes a board in any machine, of whose pictures nothing is said.
 #![tactic(auto)]
 
 mod board;
@@ -30,6 +31,6 @@ mod port;
 mod stops;
 mod wires;
 
-pub use board::{Board, Move, Moved};
+pub use board::{Board, Move, Moved, Switches};
 pub use port::Wire;
 pub use stops::Stops;

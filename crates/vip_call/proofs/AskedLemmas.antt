@@ -1,6 +1,6 @@
 -- Words ask for a run of at most as many cycles as a run may have.
 use Rattle.std.proofs.Common.{◌≡◌, ℕ, ◌≤◌, Bool, true, false, List, [], ◌∷◌, Option, Some, None, length, refl, subst}
-use Rattle.std.specs.Prelude.{◌==◌, if◌then◌else◌, nat_lt, not, option_and_then, option_map, Result, Ok, Err}
+use Rattle.std.specs.Prelude.{◌&&◌, ◌==◌, if◌then◌else◌, nat_lt, not, option_and_then, option_map, Result, Ok, Err}
 use Rattle.std.specs.Result.{result_ok}
 use Rattle.std.specs.Str.Parse.{digits_value}
 use Rattle.std.proofs.lemmas.Bool.{ltb-false}
@@ -8,12 +8,15 @@ use Rattle.asm_lex.specs.declared.shape.Isa.{Isa}
 use Rattle.vip_byte.specs.Number.{are_digits, decimal_number, most_cycles, number}
 use Rattle.vip_byte.specs.declared.number.NumFault.{NumFault}
 use Rattle.vip_byte.specs.declared.number.NumFault.TheVariants.{Empty, BadDigit, TooLarge}
-use Rattle.vip_words.specs.Asked.{asked_behind, asked_by, asked_of_verb, bounds_by, built_in_by, cycles_of, debug_by, demo_by, digest_by, dis_by, either_by, entry_of, file_by, help_by, is_mixed, is_program, link_by, moves_of, place_of, play_by, profile_by, program_by, register_of, resume_by, run_by, safe_by, seed_of, shown_by, source_by, start_by, timing_by, trace_by, two_registers, version_by, why_of, within_by}
+use Rattle.vip_words.specs.Asked.{any_by, asked_behind, asked_by, asked_of_verb, bounds_by, built_in_by, cycles_of, debug_by, demo_by, digest_by, dis_by, either_by, entry_of, file_by, help_by, is_mixed, is_mixed_state, is_program, link_by, moves_of, place_of, play_by, profile_by, program_by, register_of, resume_by, run_by, safe_by, save_by, seed_of, source_by, start_by, timing_by, trace_by, two_registers, version_by, why_of, within_by}
 use Rattle.vip_words.specs.Request.{Asked}
 use Rattle.vip_words.specs.Rules.{Given, Word, given_by}
 use Rattle.vip_words.specs.Table.{is_alone, is_why, places_of, row, verb_of}
 use Rattle.vip_words.specs.declared.request.Entry.{Entry}
+use Rattle.vip_words.specs.declared.flag.Flag.TheVariants.{State}
+use Rattle.vip_words.specs.declared.request.BoardShow.{BoardShow}
 use Rattle.vip_words.specs.declared.request.ProgramShow.{ProgramShow}
+use Rattle.vip_words.specs.declared.request.ProgramShow.TheVariants.{Board}
 use Rattle.vip_words.specs.declared.request.Request.{Request}
 use Rattle.vip_words.specs.declared.request.Request.TheVariants.{Run}
 use Rattle.vip_words.specs.declared.request.Show.{Show}
@@ -81,6 +84,11 @@ either_limited : (file cycles : Word) (given : Given) (shown : Show Word) (progr
 either_limited file cycles given shown program =
     either (is_program given) _ _ (program_limited file cycles given program) (run_limited file cycles given shown)
 
+any_limited : (file cycles : Word) (given : Given) (shown : Show Word) (board : BoardShow Word) → Limited (any_by file cycles given shown board)
+any_limited file cycles given shown board =
+    either (is_program given && given.has State) _ _ (either (is_mixed_state given) None _ tt (of_each _ (cycles_of cycles) (λ n. tt)))
+    (either_limited file cycles given shown (Board board))
+
 trace_limited : (words : List Word) (given : Given) → Limited (trace_by words given)
 trace_limited (file ∷ cycles ∷ []) given = either_limited file cycles given _ _
 trace_limited [] given = tt
@@ -100,17 +108,17 @@ profile_limited (file ∷ []) given = tt
 profile_limited (file ∷ cycles ∷ more ∷ words) given = tt
 
 debug_limited : (words : List Word) (given : Given) → Limited (debug_by words given)
-debug_limited (file ∷ cycles ∷ commands ∷ []) given = either_limited file cycles given _ _
+debug_limited (file ∷ cycles ∷ commands ∷ []) given = any_limited file cycles given _ _
 debug_limited [] given = tt
 debug_limited (file ∷ []) given = tt
 debug_limited (file ∷ cycles ∷ []) given = tt
 debug_limited (file ∷ cycles ∷ commands ∷ more ∷ words) given = tt
 
-shown_limited : (shown : Show Word) (words : List Word) (given : Given) → Limited (shown_by shown words given)
-shown_limited shown (file ∷ cycles ∷ []) given = run_limited file cycles given shown
-shown_limited shown [] given = tt
-shown_limited shown (file ∷ []) given = tt
-shown_limited shown (file ∷ cycles ∷ more ∷ words) given = tt
+save_limited : (words : List Word) (given : Given) → Limited (save_by words given)
+save_limited (file ∷ cycles ∷ []) given = any_limited file cycles given _ _
+save_limited [] given = tt
+save_limited (file ∷ []) given = tt
+save_limited (file ∷ cycles ∷ more ∷ words) given = tt
 
 resume_limited : (words : List Word) (given : Given) → Limited (resume_by words given)
 resume_limited (file ∷ cycles ∷ []) given = of_cycles _ cycles (λ n few. few)
@@ -188,7 +196,7 @@ verb_limited : (v : Verb) (given : Given) → Limited (asked_of_verb v given)
 verb_limited verb.Trace given = trace_limited given.positional given
 verb_limited verb.Play given = play_limited given.positional given
 verb_limited verb.Debug given = debug_limited given.positional given
-verb_limited verb.Save given = shown_limited _ given.positional given
+verb_limited verb.Save given = save_limited given.positional given
 verb_limited verb.Profile given = profile_limited given.positional given
 verb_limited verb.Resume given = resume_limited given.positional given
 verb_limited verb.Demo given = demo_limited given.positional

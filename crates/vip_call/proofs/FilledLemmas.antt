@@ -3,11 +3,13 @@ use Rattle.std.proofs.Common.{◌≡◌, ℕ, ◌<◌, ◌≤◌, List, [], ◌�
 use Rattle.std.specs.Prelude.{option_map}
 use Rattle.std.proofs.lemmas.List.{map-append}
 use Rattle.vip_outside.specs.Files.{FilesMeaning}
-use Rattle.vip_words.specs.Request.{Asked, map_code, map_program_show, map_request, map_show, map_start}
+use Rattle.vip_words.specs.Request.{Asked, map_board_show, map_code, map_program_show, map_request, map_show, map_start}
 use Rattle.vip_words.specs.Rules.{Word}
 use Rattle.vip_words.specs.declared.request.Code.{Code}
 use Rattle.vip_words.specs.declared.request.Code.TheVariants as code
 use Rattle.vip_words.specs.declared.request.Memory.{Memory}
+use Rattle.vip_words.specs.declared.request.BoardShow.{BoardShow}
+use Rattle.vip_words.specs.declared.request.BoardShow.TheVariants as board
 use Rattle.vip_words.specs.declared.request.ProgramShow.{ProgramShow}
 use Rattle.vip_words.specs.declared.request.ProgramShow.TheVariants as program
 use Rattle.vip_words.specs.declared.request.Request.{Request}
@@ -16,7 +18,7 @@ use Rattle.vip_words.specs.declared.request.Show.{Show}
 use Rattle.vip_words.specs.declared.request.Show.TheVariants as show
 use Rattle.vip_words.specs.declared.request.Start.{Start}
 use Rattle.vip_words.specs.declared.request.Start.TheVariants as start
-use Rattle.vip_tools.specs.Files.{HasAll, Loaded, Needed, code_file, files_of, game_kind, most_text, needed, program_code, program_kind, program_show_files, program_size, script_files, shape_of, show_files, start_files, with_file}
+use Rattle.vip_tools.specs.Files.{HasAll, Loaded, Needed, board_show_files, code_file, files_of, game_kind, most_text, needed, program_code, program_kind, program_show_files, program_size, program_state_file, script_files, shape_of, show_files, start_files, with_file}
 use Rattle.vip_tools.specs.declared.refusal.Kind.{Kind}
 use Rattle.chip8_lang.specs.State.{memory_size}
 
@@ -47,11 +49,15 @@ module _ {A B : Type 0} (f : A → B) where
   program_mosts : (m : Memory) (code : Code A) → mosts (program_code m (map_code f code) ∷ []) ≡ mosts (program_code m code ∷ [])
   program_mosts m code = ap (λ most. most ∷ []) (code_most (program_kind m) (program_size m) code)
 
+  board_show_mosts : (s : BoardShow A) → mosts (board_show_files (map_board_show f s)) ≡ mosts (board_show_files s)
+  board_show_mosts (board.Commands file echo) = refl
+  board_show_mosts board.State = refl
+
   program_show_mosts : (s : ProgramShow A) → mosts (program_show_files (map_program_show f s)) ≡ mosts (program_show_files s)
   program_show_mosts program.Trace = refl
   program_show_mosts program.Pictures = refl
   program_show_mosts program.Profile = refl
-  program_show_mosts (program.Commands file echo) = refl
+  program_show_mosts (program.Board shown) = board_show_mosts shown
 
 both_mosts : {N : Type 0} (xs ys : List (Needed N)) → mosts (xs ++ ys) ≡ mosts xs ++ mosts ys
 both_mosts xs ys = map-append (λ n. n.most) xs ys
@@ -72,6 +78,10 @@ same_mosts f (request.Program run) =
     three_mosts (program_code run.memory (map_code f run.code) ∷ []) (program_show_files (map_program_show f run.show)) (script_files (option_map f run.keys))
     (program_code run.memory run.code ∷ []) (program_show_files run.show) (script_files run.keys)
     (program_mosts f run.memory run.code) (program_show_mosts f run.show) (script_mosts f run.keys)
+same_mosts f (request.Resumed run) =
+    three_mosts (program_state_file (f run.state) ∷ []) (board_show_files (map_board_show f run.show)) (script_files (option_map f run.keys))
+    (program_state_file run.state ∷ []) (board_show_files run.show) (script_files run.keys)
+    refl (board_show_mosts f run.show) (script_mosts f run.keys)
 same_mosts f (request.Safe game certificate edition) = ap (λ most. most ∷ most_text ∷ []) (code_most f (game_kind edition) (memory_size edition) game)
 same_mosts f (request.Certify game edition) = ap (λ most. most ∷ []) (code_most f (game_kind edition) (memory_size edition) game)
 same_mosts f _ = refl
@@ -130,14 +140,22 @@ abbrev behind_show : Show (Unit {0}) → List (List ℕ) → List (List ℕ)
 behind_show (show.Commands file echo columns) xs = other_files xs
 behind_show _ xs = xs
 
+abbrev fill_board_show : BoardShow (Unit {0}) → List (List ℕ) → BoardShow (List ℕ)
+fill_board_show (board.Commands file echo) xs = board.Commands (first_file xs) echo
+fill_board_show board.State xs = board.State
+
+abbrev behind_board_show : BoardShow (Unit {0}) → List (List ℕ) → List (List ℕ)
+behind_board_show (board.Commands file echo) xs = other_files xs
+behind_board_show board.State xs = xs
+
 abbrev fill_program_show : ProgramShow (Unit {0}) → List (List ℕ) → ProgramShow (List ℕ)
 fill_program_show program.Trace xs = program.Trace
 fill_program_show program.Pictures xs = program.Pictures
 fill_program_show program.Profile xs = program.Profile
-fill_program_show (program.Commands file echo) xs = program.Commands (first_file xs) echo
+fill_program_show (program.Board shown) xs = program.Board (fill_board_show shown xs)
 
 abbrev behind_program_show : ProgramShow (Unit {0}) → List (List ℕ) → List (List ℕ)
-behind_program_show (program.Commands file echo) xs = other_files xs
+behind_program_show (program.Board shown) xs = behind_board_show shown xs
 behind_program_show _ xs = xs
 
 abbrev fill_keys : Option (Unit {0}) → List (List ℕ) → Option (List ℕ)
@@ -161,6 +179,14 @@ fill (request.Program run) xs =
       keys = fill_keys run.keys (behind_program_show run.show ys);
       limit = run.limit;
       show = fill_program_show run.show ys;
+    })
+fill (request.Resumed run) xs =
+    let ys = other_files xs in
+    request.Resumed (record {
+      state = first_file xs;
+      keys = fill_keys run.keys (behind_board_show run.show ys);
+      limit = run.limit;
+      show = fill_board_show run.show ys;
     })
 fill (request.Link message moves number) xs = request.Link (first_file xs) moves number
 fill (request.Text verb file) xs = request.Text verb (first_file xs)
@@ -194,19 +220,28 @@ show_left : (s : Show (List ℕ)) (ns : List (Needed (List ℕ))) → behind_sho
 show_left (show.Commands file echo columns) ns = refl
 show_left (show.Plain shown) ns = refl
 
+board_show_filled : (s : BoardShow (List ℕ)) (ns : List (Needed (List ℕ))) → fill_board_show (map_board_show bare s) (files_of (board_show_files s ++ ns)) ≡ s
+board_show_filled (board.Commands file echo) ns = refl
+board_show_filled board.State ns = refl
+
+board_show_left : (s : BoardShow (List ℕ)) (ns : List (Needed (List ℕ)))
+    → behind_board_show (map_board_show bare s) (files_of (board_show_files s ++ ns)) ≡ files_of ns
+board_show_left (board.Commands file echo) ns = refl
+board_show_left board.State ns = refl
+
 program_show_filled : (s : ProgramShow (List ℕ)) (ns : List (Needed (List ℕ)))
     → fill_program_show (map_program_show bare s) (files_of (program_show_files s ++ ns)) ≡ s
 program_show_filled program.Trace ns = refl
 program_show_filled program.Pictures ns = refl
 program_show_filled program.Profile ns = refl
-program_show_filled (program.Commands file echo) ns = refl
+program_show_filled (program.Board shown) ns = ap program.Board (board_show_filled shown ns)
 
 program_show_left : (s : ProgramShow (List ℕ)) (ns : List (Needed (List ℕ)))
     → behind_program_show (map_program_show bare s) (files_of (program_show_files s ++ ns)) ≡ files_of ns
 program_show_left program.Trace ns = refl
 program_show_left program.Pictures ns = refl
 program_show_left program.Profile ns = refl
-program_show_left (program.Commands file echo) ns = refl
+program_show_left (program.Board shown) ns = board_show_left shown ns
 
 keys_filled : (k : Option (List ℕ)) → fill_keys (option_map bare k) (files_of (script_files k)) ≡ k
 keys_filled None = refl
@@ -239,6 +274,13 @@ filled (request.Program run) =
       keys = (ap (fill_keys (option_map bare run.keys)) (program_show_left run.show (script_files run.keys)) ∙ keys_filled run.keys) i;
       limit = run.limit;
       show = program_show_filled run.show (script_files run.keys) i;
+    })
+filled (request.Resumed run) =
+    λ i. request.Resumed (record {
+      state = run.state;
+      keys = (ap (fill_keys (option_map bare run.keys)) (board_show_left run.show (script_files run.keys)) ∙ keys_filled run.keys) i;
+      limit = run.limit;
+      show = board_show_filled run.show (script_files run.keys) i;
     })
 filled (request.Safe code certificate edition) =
     ap (λ code. request.Safe code certificate edition) (code_filled (game_kind edition) (memory_size edition) code)

@@ -34,7 +34,7 @@ use Rattle.vip_keypad.specs.declared.script.ScriptFault.{ScriptFault}
 use Rattle.vip_keypad.specs.declared.script.ScriptFault.TheVariants as script
 use Rattle.vip_link.specs.Checked.{ComparesLink}
 use Rattle.vip_link.specs.Roms.{sender_rom, receiver_rom, sender_text, receiver_text}
-use Rattle.vip_program.specs.Program.{started}
+use Rattle.vip_program.specs.Program.{resumed, started}
 use Rattle.vip_relation.specs.State.{Start}
 use Rattle.vip_relation.specs.State.Start.{Reset}
 use Rattle.vip_relation.specs.Follows.{Fits}
@@ -52,6 +52,8 @@ use Rattle.vip_words.specs.declared.request.Entry.{Entry}
 use Rattle.vip_words.specs.declared.request.Memory.{Memory}
 use Rattle.vip_words.specs.declared.request.OwnText.TheVariants as own
 use Rattle.vip_words.specs.declared.request.PlainShow.TheVariants as plain
+use Rattle.vip_words.specs.declared.request.BoardShow.{BoardShow}
+use Rattle.vip_words.specs.declared.request.BoardShow.TheVariants as board_show
 use Rattle.vip_words.specs.declared.request.ProgramShow.{ProgramShow}
 use Rattle.vip_words.specs.declared.request.ProgramShow.TheVariants as program_show
 use Rattle.vip_words.specs.declared.request.Request.TheVariants as request
@@ -63,7 +65,7 @@ use Rattle.vip_words.specs.declared.request.TextVerb.{TextVerb}
 use Rattle.vip_words.specs.declared.request.TextVerb.TheVariants as text
 use Rattle.vip_tools.specs.Certificates.{EntryComes, ProofComes, ProofFound, RoutineComes, RoutineFound, SafeComes, CertifyComes, CyclesComes, SourceRom, TimingComes, cert_refusal, certify_shown, count_line, exits_asked, find_refusal, proof_refusal, rom_in, routine_text, timing_refusal, timing_shown}
 use Rattle.asm_core.specs.Origins.{no_origins}
-use Rattle.vip_tools.specs.Code.{FitComes, GameComes, ImageComes, IsFitGame, IsLarge, Known, LaidComes, known_of}
+use Rattle.vip_tools.specs.Code.{FitComes, GameComes, ImageComes, IsFitGame, IsLarge, Known, LaidComes, known_of, nothing_known}
 use Rattle.vip_tools.specs.Files.{Loaded, needed, script_files, show_files}
 use Rattle.vip_tools.specs.Judged.{Judged, bind, cause_of, each, judged, only}
 use Rattle.vip_tools.specs.Judged.Cause.{Fault}
@@ -82,7 +84,7 @@ use Rattle.vip_tools.proofs.JudgedLemmas.{Agree, AgreeOn, AllSound, Any, IsFine,
 use Rattle.vip_verbs.specs.Outcome.{HasOutcome, IsSavedIn, LinkRomsCome, RomComes, RomIs, RunStart, RunTo, ShowComes, StartComes, TextVerbComes, digest_line, known_in, linked, linked_after, pieces_of, ran_with, run_ending, saved_pieces, shown_by}
 use Rattle.vip_show.specs.Runs.{events_in}
 use Rattle.vip_verbs.proofs.WorkLemmas.{rom-given}
-use Rattle.vip_verbs.specs.Programs.{ProgramComes, ProgramShowComes, memory_in, program_debugged, program_pictured, program_profiled, program_traced}
+use Rattle.vip_verbs.specs.Programs.{BoardShowComes, ProgramComes, ProgramShowComes, RunsOn, memory_in, program_debugged, program_pictured, program_profiled, program_saved, program_traced}
 use Rattle.vip_call.specs.Top.{Call, DecidesCertify, IsCheck, IsOfRom, IsSearch}
 use Rattle.vip_call.specs.Transcribed.{LacksPoint, SavesNone}
 use Rattle.vip_call.proofs.FilledLemmas.{AreGiven}
@@ -271,21 +273,28 @@ start_once (beginning.State file) =
     (λ s t x y i. record { edition = one_edition s.edition t.edition file x.accepted y.accepted i; start = (x.saved ∙ sym y.saved) i })
 start_once (beginning.Made made) = only_agree _
 
+board_once : (board_by : List KeyEvent → Seen) (keys : Option (List ℕ)) (outcome : Seen → Outcome) → OneEnd (RunsOn board_by keys outcome) (RunsOn board_by keys outcome)
+board_once board_by keys outcome =
+    once_behind (ScriptComes keys) (λ script. Ends (outcome (board_by script))) (result_agree (script_in keys) script_refusal) (λ script. ends_once _)
+
+board_show_once : (known : Known) (board_by : List KeyEvent → Seen) (keys : Option (List ℕ)) (limit : ℕ) (shown : BoardShow (List ℕ))
+    → OneEnd (BoardShowComes known board_by keys limit shown) (BoardShowComes known board_by keys limit shown)
+board_show_once known board_by keys limit (board_show.Commands text echo) =
+    once_behind (CommandsCome Processor known.names echo limit text) (λ commands. RunsOn board_by keys (program_debugged known.origins commands limit))
+    (result_agree (commands_of Processor known.names echo limit text) command_refusal)
+    (λ commands. board_once board_by keys (program_debugged known.origins commands limit))
+board_show_once known board_by keys limit board_show.State = board_once board_by keys (program_saved limit)
+
 program_once : (memory : Memory) (rom ram : List ℕ) (keys : Option (List ℕ)) (outcome : Seen → Outcome)
     → OneEnd (ProgramComes memory rom ram keys outcome) (ProgramComes memory rom ram keys outcome)
-program_once memory rom ram keys outcome =
-    once_behind (ScriptComes keys) (λ script. Ends (outcome (started (memory_in memory) rom ram script))) (result_agree (script_in keys) script_refusal)
-    (λ script. ends_once _)
+program_once memory rom ram = board_once (started (memory_in memory) rom ram)
 
 program_show_once : (known : Known) (memory : Memory) (rom ram : List ℕ) (keys : Option (List ℕ)) (limit : ℕ) (shown : ProgramShow (List ℕ))
     → OneEnd (ProgramShowComes known memory rom ram keys limit shown) (ProgramShowComes known memory rom ram keys limit shown)
 program_show_once known memory rom ram keys limit program_show.Trace = program_once memory rom ram keys (program_traced known.origins limit)
 program_show_once known memory rom ram keys limit program_show.Pictures = program_once memory rom ram keys (program_pictured limit)
 program_show_once known memory rom ram keys limit program_show.Profile = program_once memory rom ram keys (program_profiled limit)
-program_show_once known memory rom ram keys limit (program_show.Commands text echo) =
-    once_behind (CommandsCome Processor known.names echo limit text) (λ commands. ProgramComes memory rom ram keys (program_debugged known.origins commands limit))
-    (result_agree (commands_of Processor known.names echo limit text) command_refusal)
-    (λ commands. program_once memory rom ram keys (program_debugged known.origins commands limit))
+program_show_once known memory rom ram keys limit (program_show.Board shown) = board_show_once known (started (memory_in memory) rom ram) keys limit shown
 
 -- ---- which statuses come
 
@@ -348,6 +357,7 @@ module _ (given : RomsGiven) where
       once_behind (ImageComes run.memory run.code)
       (λ image. ProgramShowComes (known_of Cdp1802 run.code) run.memory image.0 image.1 run.keys run.limit run.show) (image_once run.memory run.code)
       (λ image. program_show_once (known_of Cdp1802 run.code) run.memory image.0 image.1 run.keys run.limit run.show)
+  agree (request.Resumed run) = board_show_once nothing_known (resumed run.state) run.keys run.limit run.show
   agree (request.Link message moves number) =
       any_behind LinkRomsCome LinkRomsCome (λ _. Ends (linked (linked_after number moves message))) (λ _. Ends (linked (linked_after number moves message))) links_once
       (λ _ _. ends_once _)
@@ -459,19 +469,28 @@ module _ (given : RomsGiven) where
     show_free known e s keys limit (show.Plain plain.Profile) saves = run_free e keys _ (λ script. run_ends (run_ending e s script limit))
     show_free known e s keys limit (show.Plain (plain.Summary number)) saves = run_free e keys _ (λ script. run_ends (run_ending e s script limit))
 
+    board_free : (board_by : List KeyEvent → Seen) (keys : Option (List ℕ)) (outcome : Seen → Outcome)
+        → ((board : Seen) → Sound (IsDue loaded) (EndsWell loaded) (IsSearch loaded) (outcome board)) → Free loaded (RunsOn board_by keys outcome)
+    board_free board_by keys outcome sound = free_behind (ScriptComes keys) _ (script_free keys) (λ script. ends_free _ (sound _))
+
+    board_show_free : (known : Known) (board_by : List KeyEvent → Seen) (keys : Option (List ℕ)) (limit : ℕ) (shown : BoardShow (List ℕ))
+        → Free loaded (BoardShowComes known board_by keys limit shown)
+    board_show_free known board_by keys limit (board_show.Commands text echo) =
+        free_behind (CommandsCome Processor known.names echo limit text) (λ commands. RunsOn board_by keys (program_debugged known.origins commands limit))
+        (part _ _ command_refusal (λ f x. command_fine f))
+        (λ commands. board_free board_by keys (program_debugged known.origins commands limit) (λ board bad. absurd (cc)))
+    board_show_free known board_by keys limit board_show.State = board_free board_by keys (program_saved limit) (λ board bad. absurd (cc))
+
     program_free : (memory : Memory) (rom ram : List ℕ) (keys : Option (List ℕ)) (outcome : Seen → Outcome)
         → ((board : Seen) → Sound (IsDue loaded) (EndsWell loaded) (IsSearch loaded) (outcome board)) → Free loaded (ProgramComes memory rom ram keys outcome)
-    program_free memory rom ram keys outcome sound = free_behind (ScriptComes keys) _ (script_free keys) (λ script. ends_free _ (sound _))
+    program_free memory rom ram = board_free (started (memory_in memory) rom ram)
 
     program_show_free : (known : Known) (memory : Memory) (rom ram : List ℕ) (keys : Option (List ℕ)) (limit : ℕ) (shown : ProgramShow (List ℕ))
         → Free loaded (ProgramShowComes known memory rom ram keys limit shown)
     program_show_free known memory rom ram keys limit program_show.Trace = program_free memory rom ram keys (program_traced known.origins limit) (λ board bad. absurd (cc))
     program_show_free known memory rom ram keys limit program_show.Pictures = program_free memory rom ram keys (program_pictured limit) (λ board bad. absurd (cc))
     program_show_free known memory rom ram keys limit program_show.Profile = program_free memory rom ram keys (program_profiled limit) (λ board bad. absurd (cc))
-    program_show_free known memory rom ram keys limit (program_show.Commands text echo) =
-        free_behind (CommandsCome Processor known.names echo limit text) (λ commands. ProgramComes memory rom ram keys (program_debugged known.origins commands limit))
-        (part _ _ command_refusal (λ f x. command_fine f))
-        (λ commands. program_free memory rom ram keys (program_debugged known.origins commands limit) (λ board bad. absurd (cc)))
+    program_show_free known memory rom ram keys limit (program_show.Board shown) = board_show_free known (started (memory_in memory) rom ram) keys limit shown
 
   text_verb_free : (verb : TextVerb) (file : List ℕ) → Free (request.Text verb file) (TextVerbComes verb file)
   text_verb_free (text.Asm isa raw) source = text_free (request.Text (text.Asm isa raw) source) isa source (IsBytes isa raw)
@@ -500,6 +519,7 @@ module _ (given : RomsGiven) where
       let l = request.Program run in
       free_behind l (ImageComes run.memory run.code) _ (image_free l run.memory run.code)
       (λ image. program_show_free l (known_of Cdp1802 run.code) run.memory image.0 image.1 run.keys run.limit run.show)
+  free (request.Resumed run) = board_show_free (request.Resumed run) nothing_known (resumed run.state) run.keys run.limit run.show
   free (request.Link message moves number) =
       let l = request.Link message moves number in
       free_behind l LinkRomsCome _ (part l _ _ rom_refusal (λ f x. rom_fine l f (links_never f x))) (λ _. ends_free l _ (λ bad. absurd (cc)))

@@ -98,7 +98,10 @@ fn compare_roms(alloc: Global, prepared: &Prepared) -> Result<(), ImageFault>
             Edition::Tall => check_tall(alloc),
         },
         Prepared::Link { .. } => check_link(alloc),
-        Prepared::Program { .. } | Prepared::Text(_) | Prepared::Checked(_) => Ok(()),
+        Prepared::Program { .. }
+        | Prepared::Resumed { .. }
+        | Prepared::Text(_)
+        | Prepared::Checked(_) => Ok(()),
     }
 }
 

@@ -91,6 +91,13 @@ impl Cpu {
         }
     }
 
+    /// Enables interrupts or disables them, and lets the processor idle or not.
+    pub fn switch(&mut self, interrupts: bool, idle: bool)
+        ensures { self.new ≡ record self.old { regs = record self.old.regs { ie = interrupts; idle = idle } } }
+    {
+        self.registers.switch(interrupts, idle);
+    }
+
     /// One machine cycle. `dma` says whether DMA out is wanted in it, and `int` whether INT is active; both are looked at only at a
     /// boundary. Answers what kind of cycle it was.
     #[inline(always)]

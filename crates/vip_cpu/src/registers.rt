@@ -171,6 +171,14 @@ impl Registers {
         }
     }
 
+    /// Enables interrupts or disables them, and lets the processor idle or not.
+    pub fn switch(&mut self, interrupts: bool, idle: bool)
+        ensures { self.new ≡ record self.old { ie = interrupts; idle = idle } }
+    {
+        self.ie = interrupts;
+        self.idle = idle;
+    }
+
     // ---- what they hold
 
     /// R(n).

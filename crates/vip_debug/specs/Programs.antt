@@ -9,7 +9,7 @@ use Rattle.vip_words.specs.Spoken.{Spoken}
 use Rattle.vip_words.specs.declared.debug_commands.Command.{Command}
 use Rattle.vip_words.specs.declared.debug_commands.Command.TheVariants.{Runs, Shows}
 use Rattle.vip_words.specs.declared.debug_commands.Running.{Running}
-use Rattle.vip_words.specs.declared.debug_commands.Running.TheVariants.{Step, Watch}
+use Rattle.vip_words.specs.declared.debug_commands.Running.TheVariants.{Step, To, Watch}
 use Rattle.vip_cpu.specs.declared.cpu.Phase.TheVariants.{Boundary}
 use Rattle.vip_outside.specs.Sink.{SinkMeaning}
 use Rattle.vip_outside.specs.Pieces.{PutsAll, FailsWithin}
@@ -74,6 +74,10 @@ module _ (rom : List ℕ) (script : List Event) (limit : ℕ) where
 -- the machine after some commands, and what they write
 abbrev pub machine_with : Seen → ℕ → List Spoken → Machine
 machine_with s limit commands = after_all (machine_after s.rom s.script limit) commands s.machine
+
+-- the one at which `to` its limit leaves a board: the end of its run
+abbrev pub machine_at : Seen → ℕ → Machine
+machine_at s limit = machine_after s.rom s.script limit (Runs (To limit)) s.machine
 
 abbrev pub program_written : Origins → Seen → ℕ → List Spoken → List (List ℕ)
 program_written origins s limit commands =

@@ -34,6 +34,6 @@ mod watched;
 
 pub use looks::Looks;
 pub use moves::Change;
-pub use program::run_program_commands;
+pub use program::{run_program_commands, run_program_to};
 pub use run::{DebugEnd, run_commands};
 pub use target::Target;

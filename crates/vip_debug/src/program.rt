@@ -4,12 +4,12 @@ ghost use Rattle.std.specs.Prelude.{◌≡◌, ◌≤◌, ◌++◌, [], Some, tr
 ghost use Rattle.vip_cpu.specs.declared.cpu.Phase.{Phase};
 ghost use Rattle.vip_outside.specs.Sink.{PutAnswers};
 ghost use Rattle.vip_outside.specs.Pieces.{StreamAnswers};
-ghost use Rattle.vip_program.specs.Trace.{sleeps};
+ghost use Rattle.vip_program.specs.Trace.{end_at, sleeps};
 ghost use Rattle.vip_text.specs.Stops.{idle_line};
 ghost use Rattle.vip_debug.specs.TargetRun.{run_from};
 ghost use Rattle.vip_debug.specs.Commands.{came};
 ghost use Rattle.vip_debug.specs.BoardParts.{Arrives, Fits, IsShown, labels_by, lines_by};
-ghost use Rattle.vip_debug.specs.Programs.{OneAnswers, ProgramAnswers, comes_to, ended_lines, gone_lines, machine_after, program_pieces, ran_lines};
+ghost use Rattle.vip_debug.specs.Programs.{OneAnswers, ProgramAnswers, StandsAs, comes_to, ended_lines, gone_lines, machine_after, machine_at, program_pieces, ran_lines};
 ghost use Rattle.vip_debug.specs.ProgramLaws.{ProgramLeads, program-leads-on};
 
 use crate::answer::{put_completed, put_echo, put_showing};
@@ -73,6 +73,20 @@ fn run_program(
 {
     let mut program = Program { board };
     go(&mut program, running, limit, Some(origins), change)
+}
+
+/// Runs a board up to a limit, as the debugger's `to` does, and answers whether the processor sleeps there, and behind which IDL. The board is at a
+/// boundary, before and after.
+pub fn run_program_to(board: &mut Board, limit: Limit) -> ProgramEnd
+    requires boundary { board.old.phase ≡ Phase.Boundary }
+    requires within { board.old.machine.cycle ≤ limit }
+    ensures stands { StandsAs limit board.old (machine_at board.old limit) board.new }
+    ensures ending { result ≡ end_at (machine_at board.old limit) }
+{
+    let mut change = Change::new();
+    let running = Running::To(limit.cycles());
+    go(&mut Program { board }, running, limit, None, &mut change);
+    ending(board)
 }
 
 /// Puts what is said of a processor that sleeps behind the IDL at an address.

@@ -120,6 +120,14 @@ impl Memory {
         self.latch.is_set()
     }
 
+    /// The bytes of both memories, which no write changes: a fact, and no code.
+    pub fn sizes(&self)
+        ensures ram { length self.now.ram ≡ 0x1000 }
+        ensures rom { length self.now.rom ≡ 0x800 }
+    {
+        let _ = &self.pages;
+    }
+
     /// Lends the 256 bytes of the page whose addresses have the high byte `high`, whatever the latch is: a page of RAM for 00 to 0F,
     /// one of ROM for 80 to 87, and None for every other.
     pub fn page(&self, high: u8) -> Option<&[u8]>

@@ -1,4 +1,4 @@
--- A program on the board: where its bytes lie, and the board with which it starts. After reset the boot latch makes the ROM be read at 0000
+-- A program on the board: where its bytes lie, and the board with which it starts or goes on. After reset the boot latch makes the ROM be read at 0000
 -- too (RCA's instruction manual of the COSMAC VIP, "Logic"); a program of the manual's listings lies in RAM from 0000 on and starts there.
 -- That both are started with no monitor program between is this project's profile.
 use Rattle.std.specs.Prelude.{ℕ, ◌-◌, List, ◌++◌, length, replicate, Bool, true, false}
@@ -6,7 +6,8 @@ use Rattle.machine.specs.Board.{after_reset}
 use Rattle.machine.specs.Keys.{Event}
 use Rattle.vip_board.specs.Seen.{Seen}
 use Rattle.vip_cpu.specs.declared.cpu.Phase.TheVariants.{Boundary}
-use Rattle.vip_video.specs.Chip.{nothing_yet}
+use Rattle.vip_text.specs.ProgramFile.{machine_in, rom_in}
+use Rattle.vip_video.specs.Chip.{nothing_before, nothing_yet}
 use Rattle.vip_program.specs.declared.start.Memory.{Memory}
 use Rattle.vip_program.specs.declared.start.Memory.TheVariants.{Rom, Ram}
 
@@ -34,5 +35,16 @@ started memory rom ram script =
       phase = Boundary;
       pictures = nothing_yet;
       rom = padded rom_size rom;
+      script = script;
+    }
+
+-- the board that goes on in the machine of an accepted file, with a key script
+abbrev pub resumed : List ℕ → List Event → Seen
+resumed file script =
+    record {
+      machine = machine_in file;
+      phase = Boundary;
+      pictures = nothing_before (machine_in file).cycle;
+      rom = rom_in file;
       script = script;
     }

@@ -36,5 +36,5 @@ pub use moves::move_text;
 pub use pictures::show_pictures;
 pub use profile::show_profile;
 pub use profile_text::{Codes, TEXT_SIZE, write_profile};
-pub use start::{Memory, start_program};
+pub use start::{Memory, resume_program, start_program};
 pub use trace::{ProgramEnd, ending, show_trace, trace_moves};

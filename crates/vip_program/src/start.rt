@@ -1,12 +1,15 @@
-//! The board with which a program starts.
+//! The board with which a program starts, or goes on.
 
 ghost use Rattle.std.specs.Prelude.{◌≡◌, ◌≤◌, ◌++◌, [], drop, length, IfOk};
 ghost use Rattle.vip_board.specs.Shown.{HasPictures};
-ghost use Rattle.vip_program.specs.Program.{padded, ram_size, rom_size, started};
+ghost use Rattle.vip_text.specs.ProgramFile.{IsProgram};
+ghost use Rattle.vip_program.specs.Program.{padded, ram_size, resumed, rom_size, started};
 
 use std::alloc::{AllocError, Global};
-use vip_board::Board;
+use vip_board::{Board, Switches};
 use vip_keypad::Script;
+use vip_text::program_file::{DISPLAY, IDLE, INTERRUPTS, LATCH, is_on, part, ram, rom};
+use vip_text::state_file::{KEY, cycle, parts};
 
 /// The bytes of the ROM.
 const ROM_SIZE: usize = 0x800;
@@ -59,5 +62,30 @@ pub fn start_program(
         Memory::Rom => {}
         Memory::Ram => board.clear_latch(),
     }
+    Ok(board)
+}
+
+/// A board that goes on in the machine of an accepted file, under a key script, with no move made.
+pub fn resume_program(alloc: Global, file: &[u8], script: &Script) -> Result<Board, AllocError>
+    requires { IsProgram file.now }
+    ensures { IfOk result (λ b. b ≡ resumed file.now script.now) }
+{
+    let part = part(file);
+    let switches = Switches {
+        latch: is_on(file, LATCH),
+        display: is_on(file, DISPLAY),
+        interrupts: is_on(file, INTERRUPTS),
+        idle: is_on(file, IDLE),
+    };
+    let board = Board::stand(
+        alloc,
+        rom(file),
+        script,
+        &parts(part),
+        ram(file),
+        part[KEY],
+        cycle(part),
+        switches,
+    )?;
     Ok(board)
 }

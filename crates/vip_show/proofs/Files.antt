@@ -6,6 +6,9 @@ use Rattle.vip_show.specs.Written.{register_bytes}
 regroup : (a b c : List ℕ) → a ++ b ++ c ≡ a ++ (b ++ c)
 regroup a b c = simp append_assoc
 
+pub four : (a b c d : List ℕ) → a ++ b ++ c ++ d ≡ a ++ (b ++ c ++ d)
+four a b c d = simp append_assoc
+
 -- some bytes more
 pub more : (l l1 l2 xs x ys : List ℕ) → l1 ≡ l ++ xs → l2 ≡ l1 ++ x → xs ++ x ≡ ys → l2 ≡ l ++ ys
 more l l1 l2 xs x ys one two is = two ∙ ap (λ m. m ++ x) one ∙ regroup l xs x ∙ ap (λ m. l ++ m) is

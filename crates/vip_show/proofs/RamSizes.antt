@@ -68,7 +68,7 @@ ram-size v f =
 
 -- ---- the file
 
-whole : (r : List ℕ) → length r ≡ 0x1000 → slice_range r 0 0x1000 ≡ r
+pub whole : (r : List ℕ) → length r ≡ 0x1000 → slice_range r 0 0x1000 ≡ r
 whole r size = take_all 0x1000 r (omega (arith, size))
 
 pub written : (e e' : Edition) (b b' : Machine) (ram l l' : List ℕ) → length b.ram ≡ 0x1000 → l' ≡ l ++ slice_range ram 0 0x1000 → l ≡ head_of e' b'

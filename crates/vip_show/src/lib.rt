@@ -29,4 +29,4 @@ pub use output::show_saved;
 pub use pieces::{show_pictures, show_trace};
 pub use profile::show_profile;
 pub use summary::show_summary;
-pub use writing::write_state;
+pub use writing::{put_program_state, write_state};

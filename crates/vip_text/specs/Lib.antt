@@ -5,4 +5,5 @@ pub mod Summaries
 pub mod Endings
 pub mod Bounds
 pub mod StateFile
+pub mod ProgramFile
 pub mod FaultNames

@@ -6,7 +6,7 @@
 //! gave (`asm_core`), on the parts of a processor (`vip_cpu`), on the pictures of `vip_video`, on the digits and the buffer of `vip_byte`, and on the kit's `itoa`. It runs nothing. The layers
 //! above may rely on the exact bytes: each call fills an empty buffer with its text (`specs/`), and takes no memory; `check_state` accepts exactly the files
 //! that the format of machine states defines, and names the first fault of any other, and an accepted file shows the machine of `specs/StateFile.antt`, whose
-//! parts the other calls read. A picture is a file of Netpbm's PBM, form P4; the other formats are this project's profile (`docs/FORMATS.md`).
+//! parts the other calls read; `check_program` does so of the files of any program's machine (`specs/ProgramFile.antt`). A picture is a file of Netpbm's PBM, form P4; the other formats are this project's profile (`docs/FORMATS.md`).
 #![tactic(auto)]
 
 mod bounds;
@@ -14,6 +14,7 @@ mod ending;
 mod fault;
 mod limit;
 mod picture;
+pub mod program_file;
 mod screen;
 pub mod state_file;
 mod stop;

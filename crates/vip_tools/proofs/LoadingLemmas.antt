@@ -3,17 +3,19 @@ use Rattle.std.proofs.Common.{Global, ◌≡◌, ℕ, List, [], ◌∷◌, ◌++
 use Rattle.vip_outside.specs.Files.{FilesMeaning}
 use Rattle.vip_words.specs.Request.{map_code}
 use Rattle.vip_words.specs.Rules.{Word}
+use Rattle.vip_words.specs.declared.request.BoardShow.{BoardShow}
 use Rattle.vip_words.specs.declared.request.Code.{Code}
 use Rattle.vip_words.specs.declared.request.Code.TheVariants.{Bytes, Source}
 use Rattle.vip_words.specs.declared.request.ProgramRequest.{ProgramRequest}
 use Rattle.vip_words.specs.declared.request.ProgramShow.{ProgramShow}
+use Rattle.vip_words.specs.declared.request.ResumedRequest.{ResumedRequest}
 use Rattle.vip_words.specs.declared.request.RunRequest.{RunRequest}
 use Rattle.vip_words.specs.declared.request.Show.{Show}
 use Rattle.vip_words.specs.declared.request.Start.{Start}
 use Rattle.vip_tools.specs.declared.refusal.Kind.{Kind}
 use Rattle.vip_tools.specs.declared.refusal.Refusal.{Refusal}
-use Rattle.vip_tools.specs.Files.{FileAnswers, FilesRefused, Loads, Needed, code_file, program_code, program_kind, program_show_files, program_size, script_files, show_files, start_files, with_file}
-use Rattle.vip_tools.specs.Loading.{code_shape, KeysLoad, PairLoads, ProgramLoads, ProgramShowLoads, RunLoads, ShowLoads, StartLoads}
+use Rattle.vip_tools.specs.Files.{FileAnswers, FilesRefused, Loads, Needed, board_show_files, code_file, program_code, program_kind, program_show_files, program_size, program_state_file, script_files, show_files, start_files, with_file}
+use Rattle.vip_tools.specs.Loading.{code_shape, BoardShowLoads, KeysLoad, PairLoads, ProgramLoads, ProgramShowLoads, ResumedLoads, RunLoads, ShowLoads, StartLoads}
 use Rattle.vip_tools.proofs.FilesLemmas.{loads-one, loads-then, refused-before, refused-one, refused-then}
 
 -- two files by their names
@@ -100,6 +102,33 @@ module _ (old there here : FilesMeaning) (asked : ProgramRequest Word) (n : Need
   pub program-file : (refusal : Refusal) → FileAnswers {Z = Global} old there n (Err refusal) → ProgramLoads {Z = Global} old there asked (Err refusal)
   program-file refusal at =
       refused-before _ _ (program_code asked.memory asked.code ∷ []) (program_show_files asked.show ++ script_files asked.keys) refusal
+      (refused-one _ _ n _ is refusal at)
+
+-- a run of a program from a saved state
+module _ (old there here : FilesMeaning) (asked : ResumedRequest Word) (n : Needed Word) (is : n ≡ program_state_file asked.state) where
+  module _ (bytes : Vec ℕ Global) (first : FileAnswers old there n (Ok bytes)) where
+    pub resumed-loads : (new : FilesMeaning) (show : BoardShow (Vec ℕ Global)) (keys : Option (Vec ℕ Global))
+        → BoardShowLoads there here asked.show (Ok show) → KeysLoad here new asked.keys (Ok keys)
+        → ResumedLoads {Z = Global} old new asked (Ok (record { state = bytes; keys = keys; limit = asked.limit; show = show }))
+    resumed-loads new show keys second third = (
+      rw (second.0, third.0) refl,
+      loads-then _ _ _ _ _ _ _ (loads-one _ _ n _ is bytes first) (loads-then _ _ _ _ _ _ _ second.1 third.1),
+    )
+
+    pub resumed-show : (refusal : Refusal) → BoardShowLoads {Z = Global} there here asked.show (Err refusal) → ResumedLoads {Z = Global} old here asked (Err refusal)
+    resumed-show refusal at =
+        refused-then _ _ _ _ _ _ refusal (loads-one _ _ n _ is bytes first)
+        (refused-before _ _ (board_show_files asked.show) (script_files asked.keys) refusal at)
+
+    pub resumed-keys : (new : FilesMeaning) (show : BoardShow (Vec ℕ Global)) (refusal : Refusal) → BoardShowLoads there here asked.show (Ok show)
+        → KeysLoad {Z = Global} here new asked.keys (Err refusal) → ResumedLoads {Z = Global} old new asked (Err refusal)
+    resumed-keys new show refusal second at =
+        refused-then _ _ _ _ _ _ refusal (loads-one _ _ n _ is bytes first)
+        (refused-then _ _ _ (board_show_files asked.show) _ _ refusal second.1 at)
+
+  pub resumed-file : (refusal : Refusal) → FileAnswers {Z = Global} old there n (Err refusal) → ResumedLoads {Z = Global} old there asked (Err refusal)
+  resumed-file refusal at =
+      refused-before _ _ (program_state_file asked.state ∷ []) (board_show_files asked.show ++ script_files asked.keys) refusal
       (refused-one _ _ n _ is refusal at)
 
 -- two files

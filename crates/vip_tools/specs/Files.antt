@@ -8,10 +8,13 @@ use Rattle.asm_lex.specs.Ranges.{last_of}
 use Rattle.chip8_lang.specs.State.{memory_size}
 use Rattle.chip8_lang.specs.declared.view.Edition.{Edition}
 use Rattle.chip8_lang.specs.declared.view.Edition.TheVariants.{Usual, Tall}
+use Rattle.vip_text.specs.ProgramFile.{IsProgram, JudgesProgram, program_size as program_state_size}
 use Rattle.vip_text.specs.StateFile.{file_size, IsAccepted, Judges}
 use Rattle.vip_text.specs.declared.fault.StateFault.{StateFault}
 use Rattle.vip_words.specs.Request.{Asked, map_request}
 use Rattle.vip_words.specs.Rules.{Word}
+use Rattle.vip_words.specs.declared.request.BoardShow.{BoardShow}
+use Rattle.vip_words.specs.declared.request.BoardShow.TheVariants as board
 use Rattle.vip_words.specs.declared.request.Code.{Code}
 use Rattle.vip_words.specs.declared.request.Code.TheVariants as code
 use Rattle.vip_words.specs.declared.request.Memory.{Memory}
@@ -28,7 +31,7 @@ use Rattle.vip_words.specs.declared.request.TextVerb.{TextVerb}
 use Rattle.vip_words.specs.declared.request.TextVerb.TheVariants.{Dis, Digest}
 use Rattle.vip_tools.specs.declared.files.Wanted.{Wanted}
 use Rattle.vip_tools.specs.declared.refusal.Kind.{Kind}
-use Rattle.vip_tools.specs.declared.refusal.Kind.TheVariants.{Game, TallGame, Script, Commands, Source, Certificate, State, Message, Rom, Ram, Games}
+use Rattle.vip_tools.specs.declared.refusal.Kind.TheVariants.{Game, TallGame, Script, Commands, Source, Certificate, State, ProgramState, Message, Rom, Ram, Games}
 use Rattle.vip_tools.specs.declared.refusal.Refusal.{Refusal}
 use Rattle.vip_tools.specs.declared.refusal.Refusal.TheVariants.{Unread, TooLarge, State as BadState, NoMemory}
 
@@ -83,6 +86,10 @@ module _ {N : Type 0} where
   abbrev pub state_file : N → Needed N
   state_file n = file State file_size n
 
+  -- one of a program
+  abbrev pub program_state_file : N → Needed N
+  program_state_file n = file ProgramState program_state_size n
+
   -- the debugger's commands, and a key script
   abbrev pub commands_file : N → Needed N
   commands_file n = file Commands most_text n
@@ -128,8 +135,12 @@ module _ {N : Type 0} where
   show_files (show.Commands commands echo columns) = commands_file commands ∷ []
   show_files _ = []
 
+  abbrev pub board_show_files : BoardShow N → List (Needed N)
+  board_show_files (board.Commands commands echo) = commands_file commands ∷ []
+  board_show_files board.State = []
+
   abbrev pub program_show_files : ProgramShow N → List (Needed N)
-  program_show_files (program.Commands commands echo) = commands_file commands ∷ []
+  program_show_files (program.Board shown) = board_show_files shown
   program_show_files _ = []
 
   abbrev pub script_files : Option N → List (Needed N)
@@ -139,6 +150,7 @@ module _ {N : Type 0} where
   abbrev pub needed : Request N → List (Needed N)
   needed (request.Run run) = start_files run.start ++ (show_files run.show ++ script_files run.keys)
   needed (request.Program run) = program_code run.memory run.code ∷ (program_show_files run.show ++ script_files run.keys)
+  needed (request.Resumed run) = program_state_file run.state ∷ (board_show_files run.show ++ script_files run.keys)
   needed (request.Link message moves number) = message_file message ∷ []
   needed (request.Text verb file) = text_file verb file ∷ []
   needed (request.Cycles source certificate exits) = source_file source ∷ certificate_file certificate ∷ []
@@ -161,10 +173,12 @@ seen_wanted w = record { file = w.name.now; most = w.most; kind = w.kind }
 
 abbrev pub IsRight : Kind → List ℕ → Type 0
 IsRight State content = (e : Edition) × IsAccepted e content
+IsRight ProgramState content = IsProgram content
 IsRight _ content = Unit {0}
 
 abbrev pub HasFault : StateFault → Kind → List ℕ → Type 0
 HasFault fault State content = Judges content (Err fault)
+HasFault fault ProgramState content = JudgesProgram content (Err fault)
 HasFault fault _ content = ⊥
 
 -- ---- what is known of a file that was read whole: its bytes, where the map is told, that they are those there, and how they were judged

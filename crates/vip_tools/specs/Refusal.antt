@@ -1,6 +1,6 @@
 -- The status of each refusal.
 use Rattle.vip_tools.specs.declared.refusal.Kind.{Kind}
-use Rattle.vip_tools.specs.declared.refusal.Kind.TheVariants.{Game, TallGame, Script, Commands, Source, Certificate, State, Message, Rom, Ram, Games}
+use Rattle.vip_tools.specs.declared.refusal.Kind.TheVariants.{Game, TallGame, Script, Commands, Source, Certificate, State, ProgramState, Message, Rom, Ram, Games}
 use Rattle.vip_tools.specs.declared.refusal.Refusal.{Refusal}
 use Rattle.vip_tools.specs.declared.refusal.Misfit.{Misfit}
 use Rattle.vip_tools.specs.declared.refusal.Misfit.TheVariants as misfit
@@ -18,6 +18,7 @@ too_large_status Commands = CommandsTooLarge
 too_large_status Source = SourceTooLarge
 too_large_status Certificate = CertificateTooLarge
 too_large_status State = BadState
+too_large_status ProgramState = BadState
 too_large_status Message = MessageTooLarge
 too_large_status Rom = RomTooLarge
 too_large_status Ram = RamTooLarge

@@ -36,7 +36,7 @@ use Rattle.vip_tools.specs.declared.fault.PerformFault.TheVariants.{NoDispatch, 
 use Rattle.vip_tools.specs.declared.refusal.Kind.{Kind}
 use Rattle.vip_tools.specs.declared.refusal.Misfit.{Misfit}
 use Rattle.vip_tools.specs.declared.refusal.Misfit.TheVariants as misfit
-use Rattle.vip_tools.specs.declared.refusal.Kind.TheVariants.{Game, TallGame, Script, Commands, Source, Certificate, State, Message, Rom, Ram, Games}
+use Rattle.vip_tools.specs.declared.refusal.Kind.TheVariants.{Game, TallGame, Script, Commands, Source, Certificate, State, ProgramState, Message, Rom, Ram, Games}
 use Rattle.vip_tools.specs.declared.refusal.NoTiming.{NoTiming}
 use Rattle.vip_tools.specs.declared.refusal.NoTiming.TheVariants.{Undefined, Obstacle as Ended_at}
 use Rattle.vip_tools.specs.declared.refusal.Refusal.{Refusal}
@@ -90,6 +90,7 @@ too_large_report Commands = larger_than (codes "vip: commands larger than ") mos
 too_large_report Source = codes "vip: source too large" ++ newline
 too_large_report Certificate = larger_than (codes "vip: certificate larger than ") most_text
 too_large_report State = bad_state BadLength
+too_large_report ProgramState = bad_state BadLength
 too_large_report Message = larger_than (codes "vip: message larger than ") most_message
 too_large_report Rom = larger_than (codes "vip: rom larger than ") rom_size
 too_large_report Ram = larger_than (codes "vip: program larger than ") ram_size

@@ -4,7 +4,7 @@ ghost use Rattle.std.specs.Prelude.{◌≡◌, ◌<◌, ◌+◌, ◌-◌, ℕ, s
 ghost use Rattle.asm_lex.specs.Ranges.{last_of};
 ghost use Rattle.vip_words.specs.Request.{code_of};
 ghost use Rattle.vip_tools.specs.declared.refusal.Kind.TheVariants.{Games, Source};
-ghost use Rattle.vip_tools.specs.Files.{certificate_file, code_file, commands_file, file, game_code, game_kind, message_file, most_text, program_code, script_file, seen_wanted, source_file, state_file, text_file, FileAnswers, JudgeAnswers};
+ghost use Rattle.vip_tools.specs.Files.{certificate_file, code_file, commands_file, file, game_code, game_kind, message_file, most_text, program_code, program_state_file, script_file, seen_wanted, source_file, state_file, text_file, FileAnswers, JudgeAnswers};
 
 use crate::{Kind, Refusal};
 use asm_lex::Isa;
@@ -12,8 +12,8 @@ use chip8_lang::Edition;
 use std::alloc::Global;
 use vip_byte::MOST_TEXT;
 use vip_outside::{Files, ReadFail};
-use vip_text::StateFault;
 use vip_text::state_file::{SIZE, check_state};
+use vip_text::{StateFault, program_file};
 use vip_words::{Code, Memory, Place, TextVerb};
 
 /// The most bytes of a message.
@@ -71,6 +71,17 @@ pub(crate) fn state_file<'a>(name: &'a str) -> Wanted<'a>
         name,
         most: SIZE,
         kind: Kind::State,
+    }
+}
+
+/// A saved state of a program.
+pub(crate) fn program_state_file<'a>(name: &'a str) -> Wanted<'a>
+    ensures { seen_wanted result ≡ program_state_file name.now }
+{
+    Wanted {
+        name,
+        most: program_file::SIZE,
+        kind: Kind::ProgramState,
     }
 }
 
@@ -197,6 +208,7 @@ fn judge(kind: Kind, content: &[u8]) -> Result<(), StateFault>
             Ok(_) => Ok(()),
             Err(fault) => Err(fault),
         },
+        Kind::ProgramState => program_file::check_program(content),
         _ => Ok(()),
     }
 }

@@ -2,18 +2,20 @@
 
 ghost use Rattle.std.specs.Prelude.{◌≡◌, ◌∷◌, [], ◌++◌, Vec, map, option_map};
 ghost use Rattle.std.specs.declared.alloc.Global.{Global};
-ghost use Rattle.vip_words.specs.Request.{asked_of, code_of, map_code, map_program, map_program_show, map_run, map_show, map_start, program_show_of, show_of, start_of};
-ghost use Rattle.vip_tools.specs.Files.{file, needed, with_file, program_show_files, script_files, seen_wanted, show_files, start_files, LoadAnswers, PartAnswers};
-ghost use Rattle.vip_tools.specs.Loading.{KeysLoad, PairLoads, ProgramLoads, ProgramShowLoads, RunLoads, ShowLoads, StartLoads};
+ghost use Rattle.vip_words.specs.Request.{asked_of, board_show_of, code_of, map_board_show, map_code, map_program, map_program_show, map_resumed, map_run, map_show, map_start, program_show_of, show_of, start_of};
+ghost use Rattle.vip_tools.specs.Files.{board_show_files, file, needed, with_file, program_show_files, program_state_file, script_files, seen_wanted, show_files, start_files, LoadAnswers, PartAnswers};
+ghost use Rattle.vip_tools.specs.Loading.{BoardShowLoads, KeysLoad, PairLoads, ProgramLoads, ProgramShowLoads, ResumedLoads, RunLoads, ShowLoads, StartLoads};
 
 use crate::Refusal;
 use crate::files::{
     Wanted, certificate_file, commands_file, game_code, message_file, open_file, program_code,
-    script_file, source_file, state_file, text_file,
+    program_state_file, script_file, source_file, state_file, text_file,
 };
 use std::alloc::Global;
 use vip_outside::Files;
-use vip_words::{Code, ProgramRequest, ProgramShow, Request, RunRequest, Show, Start};
+use vip_words::{
+    BoardShow, Code, ProgramRequest, ProgramShow, Request, ResumedRequest, RunRequest, Show, Start,
+};
 
 /// Code with the content of its file in the place of its name.
 fn with_file(code: &Code<&str>, content: Vec<u8>) -> Code<Vec<u8>>
@@ -78,6 +80,23 @@ fn load_show<'a, F: Files>(
 }
 
 /// Reads the debugger's commands, where those are shown.
+fn load_board_show<'a, F: Files>(
+    alloc: Global,
+    files: &mut F,
+    show: BoardShow<&'a str>,
+) -> Result<BoardShow<Vec<u8>>, Refusal<'a>>
+    ensures { BoardShowLoads (F.meaning files.old) (F.meaning files.new) (board_show_of show.entry) result }
+{
+    match show {
+        BoardShow::Commands { file, echo } => {
+            let file = open_file(alloc, files, &commands_file(file))?;
+            Ok(BoardShow::Commands { file, echo })
+        }
+        BoardShow::State => Ok(BoardShow::State),
+    }
+}
+
+/// Reads the debugger's commands, where those are shown.
 fn load_program_show<'a, F: Files>(
     alloc: Global,
     files: &mut F,
@@ -86,9 +105,9 @@ fn load_program_show<'a, F: Files>(
     ensures { ProgramShowLoads (F.meaning files.old) (F.meaning files.new) (program_show_of show.entry) result }
 {
     match show {
-        ProgramShow::Commands { file, echo } => {
-            let file = open_file(alloc, files, &commands_file(file))?;
-            Ok(ProgramShow::Commands { file, echo })
+        ProgramShow::Board(show) => {
+            let show = load_board_show(alloc, files, show)?;
+            Ok(ProgramShow::Board(show))
         }
         ProgramShow::Trace => Ok(ProgramShow::Trace),
         ProgramShow::Pictures => Ok(ProgramShow::Pictures),
@@ -159,6 +178,25 @@ fn load_program<'a, F: Files>(
     })
 }
 
+/// Reads the files of a run of a program from a saved state: the state, the commands, the key script.
+fn load_resumed<'a, F: Files>(
+    alloc: Global,
+    files: &mut F,
+    run: ResumedRequest<&'a str>,
+) -> Result<ResumedRequest<Vec<u8>>, Refusal<'a>>
+    ensures { ResumedLoads (F.meaning files.old) (F.meaning files.new) (map_resumed (λ name. name.now) run.entry) result }
+{
+    let state = open_file(alloc, files, &program_state_file(run.state))?;
+    let show = load_board_show(alloc, files, run.show)?;
+    let keys = load_keys(alloc, files, run.keys)?;
+    Ok(ResumedRequest {
+        state,
+        keys,
+        limit: run.limit,
+        show,
+    })
+}
+
 /// Reads two files, one after the other.
 fn load_pair<'a, F: Files>(
     alloc: Global,
@@ -190,6 +228,10 @@ pub fn load<'a, F: Files>(
         Request::Program(run) => {
             let run = load_program(alloc, files, run)?;
             Ok(Request::Program(run))
+        }
+        Request::Resumed(run) => {
+            let run = load_resumed(alloc, files, run)?;
+            Ok(Request::Resumed(run))
         }
         Request::Link {
             message,

@@ -33,6 +33,8 @@ pub enum Kind {
     Certificate,
     /// A saved state, 4,147 bytes. A larger file is a faulty one, as a smaller one is.
     State,
+    /// A saved state of a program, 6,195 bytes, of which the same holds.
+    ProgramState,
     /// A message that one board sends to another, at most 3,000 bytes.
     Message,
     /// A program in the ROM, at most 2,048 bytes.
@@ -110,7 +112,9 @@ impl Refusal<'_> {
             Refusal::TooLarge(Kind::Commands) => Status::CommandsTooLarge,
             Refusal::TooLarge(Kind::Source) => Status::SourceTooLarge,
             Refusal::TooLarge(Kind::Certificate) => Status::CertificateTooLarge,
-            Refusal::TooLarge(Kind::State) | Refusal::State(_) => Status::BadState,
+            Refusal::TooLarge(Kind::State | Kind::ProgramState) | Refusal::State(_) => {
+                Status::BadState
+            }
             Refusal::TooLarge(Kind::Message) => Status::MessageTooLarge,
             Refusal::TooLarge(Kind::Rom) => Status::RomTooLarge,
             Refusal::TooLarge(Kind::Ram) => Status::RamTooLarge,

@@ -107,7 +107,7 @@ fn too_large(alloc: Global, kind: Kind) -> Result<Vec<u8>, AllocError>
         Kind::Commands => larger(alloc, b"vip: commands larger than ", MOST_TEXT),
         Kind::Source => line(alloc, &[b"vip: source too large\n"]),
         Kind::Certificate => larger(alloc, b"vip: certificate larger than ", MOST_TEXT),
-        Kind::State => bad_state(alloc, StateFault::BadLength),
+        Kind::State | Kind::ProgramState => bad_state(alloc, StateFault::BadLength),
         Kind::Message => larger(alloc, b"vip: message larger than ", MOST_MESSAGE),
         Kind::Rom => larger(alloc, b"vip: rom larger than ", ROM),
         Kind::Ram => larger(alloc, b"vip: program larger than ", RAM),

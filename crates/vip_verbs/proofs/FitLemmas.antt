@@ -3,7 +3,8 @@ use Rattle.std.proofs.Common.{ℕ, List, [], ◌∷◌, ◌++◌}
 use Rattle.vip_words.specs.declared.request.RunRequest.{RunRequest}
 use Rattle.vip_words.specs.declared.request.Request.TheVariants as request
 use Rattle.vip_words.specs.declared.request.ProgramRequest.{ProgramRequest}
-use Rattle.vip_tools.specs.Files.{Needed, AreFit, IsFit, needed, program_code, program_show_files, script_files, show_files, start_files}
+use Rattle.vip_words.specs.declared.request.ResumedRequest.{ResumedRequest}
+use Rattle.vip_tools.specs.Files.{Needed, AreFit, IsFit, board_show_files, needed, program_code, program_show_files, script_files, show_files, start_files}
 
 fit-first : (xs ys : List (Needed (List ℕ))) → AreFit (xs ++ ys) → AreFit xs
 fit-first [] ys fit = tt
@@ -37,3 +38,11 @@ module _ (run : ProgramRequest (List ℕ)) (fit : AreFit (needed (request.Progra
 
   pub program-keys-fit : AreFit (script_files run.keys)
   program-keys-fit = fit-rest (program_show_files run.show) _ fit.1
+
+-- one from a saved state
+module _ (run : ResumedRequest (List ℕ)) (fit : AreFit (needed (request.Resumed run))) where
+  pub resumed-show-fits : AreFit (board_show_files run.show)
+  resumed-show-fits = fit-first (board_show_files run.show) _ fit.1
+
+  pub resumed-keys-fit : AreFit (script_files run.keys)
+  resumed-keys-fit = fit-rest (board_show_files run.show) _ fit.1

@@ -13,6 +13,8 @@ use Rattle.vip_words.specs.Spoken.{Spoken}
 use Rattle.vip_words.specs.declared.debug_commands.Speaks.TheVariants.{Chip8, Machine as Processor}
 use Rattle.vip_words.specs.declared.request.PlainShow.{PlainShow}
 use Rattle.vip_words.specs.declared.request.PlainShow.TheVariants as plain
+use Rattle.vip_words.specs.declared.request.BoardShow.{BoardShow}
+use Rattle.vip_words.specs.declared.request.BoardShow.TheVariants as board
 use Rattle.vip_words.specs.declared.request.ProgramShow.{ProgramShow}
 use Rattle.vip_words.specs.declared.request.ProgramShow.TheVariants as program
 use Rattle.vip_words.specs.declared.request.Show.{Show}
@@ -32,6 +34,8 @@ use Rattle.vip_verbs.specs.Outcome.{IsSavedIn, RomComes, RunStart, StartComes, k
 use Rattle.vip_verbs.specs.declared.opening.Beginning.{Beginning}
 use Rattle.vip_verbs.specs.declared.opening.Beginning.TheVariants.{Reset, Saved}
 use Rattle.vip_verbs.specs.declared.opening.Opened.{Opened}
+use Rattle.vip_verbs.specs.declared.prepared.ReadyBoardShow.{ReadyBoardShow}
+use Rattle.vip_verbs.specs.declared.prepared.ReadyBoardShow.TheVariants as boards
 use Rattle.vip_verbs.specs.declared.prepared.ReadyProgramShow.{ReadyProgramShow}
 use Rattle.vip_verbs.specs.declared.prepared.ReadyProgramShow.TheVariants as programs
 use Rattle.vip_verbs.specs.declared.prepared.ReadyShow.{ReadyShow}
@@ -102,17 +106,30 @@ abbrev pub ShowReady : Known → ℕ → Show (List ℕ) → Result ReadyShow Re
 ShowReady known limit asked (Ok ready) = IsShow known limit asked ready
 ShowReady known limit asked (Err refusal) = RefusedBy (CommandsIn known limit asked) refusal
 
--- the same of a program
+-- the same of a program's board
+abbrev pub IsBoardShow : Known → ℕ → BoardShow (List ℕ) → ReadyBoardShow → Type 0
+IsBoardShow known limit (board.Commands text echo) ready =
+    (commands : List Spoken) × (origins : Origins) × (commands_of Processor known.names echo limit text ≡ Ok commands) × (origins ≡ known.origins)
+    × (ready ≡ boards.Commands commands origins)
+IsBoardShow known limit board.State ready = ready ≡ boards.State
+
+abbrev pub BoardCommandsIn : Known → ℕ → BoardShow (List ℕ) → Judged (List Spoken)
+BoardCommandsIn known limit (board.Commands text echo) = CommandsCome Processor known.names echo limit text
+BoardCommandsIn known limit board.State = only []
+
+abbrev pub BoardShowReady : Known → ℕ → BoardShow (List ℕ) → Result ReadyBoardShow Refusal → Type 0
+BoardShowReady known limit asked (Ok ready) = IsBoardShow known limit asked ready
+BoardShowReady known limit asked (Err refusal) = RefusedBy (BoardCommandsIn known limit asked) refusal
+
+-- and of a program
 abbrev pub IsProgramShow : Known → ℕ → ProgramShow (List ℕ) → ReadyProgramShow → Type 0
 IsProgramShow known limit program.Trace ready = (origins : Origins) × (origins ≡ known.origins) × (ready ≡ programs.Trace origins)
 IsProgramShow known limit program.Pictures ready = ready ≡ programs.Pictures
 IsProgramShow known limit program.Profile ready = (memory : ProgramProfile) × (ready ≡ programs.Profile memory)
-IsProgramShow known limit (program.Commands text echo) ready =
-    (commands : List Spoken) × (origins : Origins) × (commands_of Processor known.names echo limit text ≡ Ok commands) × (origins ≡ known.origins)
-    × (ready ≡ programs.Commands commands origins)
+IsProgramShow known limit (program.Board shown) ready = (r : ReadyBoardShow) × IsBoardShow known limit shown r × (ready ≡ programs.Board r)
 
 abbrev pub ProgramCommandsIn : Known → ℕ → ProgramShow (List ℕ) → Judged (List Spoken)
-ProgramCommandsIn known limit (program.Commands text echo) = CommandsCome Processor known.names echo limit text
+ProgramCommandsIn known limit (program.Board shown) = BoardCommandsIn known limit shown
 ProgramCommandsIn known limit _ = only []
 
 abbrev pub ProgramShowReady : Known → ℕ → ProgramShow (List ℕ) → Result ReadyProgramShow Refusal → Type 0

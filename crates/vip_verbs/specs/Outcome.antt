@@ -68,7 +68,7 @@ use Rattle.vip_tools.specs.Judged.Verdict.{Refused}
 use Rattle.vip_tools.specs.Opening.{CommandsCome, GamesCome, ScriptComes, rom_refusal}
 use Rattle.vip_tools.specs.Outcome.{Ends, Outcome, Output, Shown, Writes, rom_text}
 use Rattle.vip_tools.specs.Sources.{AsmComes, CheckComes, DisComes, ListComes}
-use Rattle.vip_verbs.specs.Programs.{ProgramRunComes}
+use Rattle.vip_verbs.specs.Programs.{ProgramRunComes, ResumedRunComes}
 
 -- ---- a run
 
@@ -258,6 +258,7 @@ TextVerbComes (text.Digest limit) list = DigestComes limit list
 abbrev pub HasOutcome : Loaded → Judged Output
 HasOutcome (request.Run run) = RunComes run
 HasOutcome (request.Program run) = ProgramRunComes run
+HasOutcome (request.Resumed run) = ResumedRunComes run
 HasOutcome (request.Link message moves number) = LinkComes message moves number
 HasOutcome (request.Text verb file) = TextVerbComes verb file
 HasOutcome (request.Cycles source certificate exits) = CyclesComes source certificate exits

@@ -38,9 +38,11 @@ use Rattle.vip_tools.specs.Judged.Cause.{Elsewhere, Memory}
 use Rattle.vip_tools.specs.Judged.Verdict.{Given, Refused}
 use Rattle.vip_tools.specs.Outcome.{Outcome, Output, Shown}
 use Rattle.vip_verbs.specs.Outcome.{HasOutcome, debugged_to, limit_from, linked, linked_after, ran, ran_with, saved_pieces}
-use Rattle.vip_verbs.specs.Programs.{IsBegun, program_debugged, program_pictured, program_profiled, program_traced}
+use Rattle.vip_verbs.specs.Programs.{IsBegun, IsStanding, program_debugged, program_pictured, program_profiled, program_saved, program_traced}
 use Rattle.vip_verbs.specs.declared.prepared.Prepared.{Prepared}
-use Rattle.vip_verbs.specs.declared.prepared.Prepared.TheVariants.{Run, Program, Link, Text, Checked}
+use Rattle.vip_verbs.specs.declared.prepared.Prepared.TheVariants.{Run, Program, Resumed, Link, Text, Checked}
+use Rattle.vip_verbs.specs.declared.prepared.ReadyBoardShow.{ReadyBoardShow}
+use Rattle.vip_verbs.specs.declared.prepared.ReadyBoardShow.TheVariants as board
 use Rattle.vip_verbs.specs.declared.prepared.ReadyProgramShow.{ReadyProgramShow}
 use Rattle.vip_verbs.specs.declared.prepared.ReadyProgramShow.TheVariants as program
 use Rattle.vip_verbs.specs.declared.prepared.ReadyShow.{ReadyShow}
@@ -61,17 +63,22 @@ shown_as show.State v limit = ran_with limit (ended_by limit v) (saved_pieces (s
 shown_as (show.Profile memory) v limit = ran limit (profile_pieces v.edition (events_to v limit)) (ended_by limit v)
 shown_as (show.Summary number) v limit = ran limit (run_summary number v limit) (ended_by limit v)
 
--- a program that is shown so
+-- a program's board that is shown so, and a program
+abbrev pub board_shown_as : ReadyBoardShow → Seen → ℕ → Outcome
+board_shown_as (board.Commands commands origins) s limit = program_debugged origins commands limit s
+board_shown_as board.State s limit = program_saved limit s
+
 abbrev pub program_shown_as : ReadyProgramShow → Seen → ℕ → Outcome
 program_shown_as (program.Trace origins) board limit = program_traced origins limit board
 program_shown_as program.Pictures board limit = program_pictured limit board
 program_shown_as (program.Profile memory) board limit = program_profiled limit board
-program_shown_as (program.Commands commands origins) board limit = program_debugged origins commands limit board
+program_shown_as (program.Board shown) board limit = board_shown_as shown board limit
 
 -- what a verb that is ready comes to
 abbrev pub outcome_of : Prepared → Outcome
 outcome_of (Run run limit shown) = shown_as shown run limit
 outcome_of (Program board limit shown) = program_shown_as shown board limit
+outcome_of (Resumed board limit shown) = board_shown_as shown board limit
 outcome_of (Link link number moves) = linked (linked_after number moves link.message)
 outcome_of (Text text) = Shown (text.items ∷ []) Done []
 outcome_of (Checked told) = Shown (told.text.items ∷ []) (checked_status told.faulty) []
@@ -93,6 +100,7 @@ pub record IsJoined (l : Linking) : Type 0 where
 abbrev pub IsReady : Prepared → Type 0
 IsReady (Run run limit shown) = IsBeginning run
 IsReady (Program board limit shown) = IsBegun board
+IsReady (Resumed board limit shown) = IsStanding board
 IsReady (Link link number moves) = IsJoined link
 IsReady (Text text) = Unit {0}
 IsReady (Checked told) = Unit {0}

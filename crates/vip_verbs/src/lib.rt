@@ -21,5 +21,5 @@ mod preparing;
 mod program;
 mod work;
 
-pub use prepared::{Prepared, ReadyProgramShow, ReadyShow, perform};
+pub use prepared::{Prepared, ReadyBoardShow, ReadyProgramShow, ReadyShow, perform};
 pub use preparing::open;

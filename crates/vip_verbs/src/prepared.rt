@@ -3,7 +3,7 @@
 ghost use Rattle.vip_verbs.specs.Prepared.{IsReady, PerformAnswers, outcome_of};
 
 use crate::linked::run_link;
-use crate::program::perform_program;
+use crate::program::{perform_board, perform_program};
 use crate::work::{perform_run, put_text, put_told};
 use asm_core::Origins;
 use asm_listing::CheckText;
@@ -33,6 +33,12 @@ pub enum Prepared {
         board: Board,
         limit: Limit,
         show: ReadyProgramShow,
+    },
+    /// A run of a program that goes on in the machine of its board, up to a limit, and what is shown of it.
+    Resumed {
+        board: Board,
+        limit: Limit,
+        show: ReadyBoardShow,
     },
     /// Two boards that are joined, which make so many moves by the schedule of a number.
     Link {
@@ -75,11 +81,20 @@ pub enum ReadyProgramShow {
     Pictures,
     /// Where its time goes, by its instructions, with the memory for it.
     Profile(ProgramProfile),
+    /// What needs the board alone.
+    Board(ReadyBoardShow),
+}
+
+/// What is shown of a program's board, with what it needs.
+#[derive(Drop)]
+pub enum ReadyBoardShow {
     /// The answers to these commands of the debugger, with the labels of this source.
     Commands {
         commands: Commands,
         origins: Origins,
     },
+    /// The state in which the run ends, as a state file.
+    State,
 }
 
 /// Does the work of a verb that is ready: its output goes out piece by piece, each by one put, up to the first put that fails. A run that is to be
@@ -95,6 +110,11 @@ pub fn perform<O: Sink>(prepared: Prepared, out: &mut O) -> Result<Ended, Perfor
             limit,
             show,
         } => perform_program(&mut board, limit, show, out),
+        Prepared::Resumed {
+            mut board,
+            limit,
+            show,
+        } => perform_board(&mut board, limit, show, out),
         Prepared::Link {
             mut link,
             number,

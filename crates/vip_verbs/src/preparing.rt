@@ -15,7 +15,7 @@ use crate::digest::digest;
 use crate::linked::open_link;
 use crate::opening::open_run;
 use crate::prepared::Prepared;
-use crate::program::open_program;
+use crate::program::{open_program, open_resumed};
 use asm_listing::CheckText;
 use chip8_lang::Edition;
 use std::alloc::Global;
@@ -117,6 +117,7 @@ fn prepare<'a>(alloc: Global, request: Request<Vec<u8>>) -> Result<Prepared, Ref
     match request {
         Request::Run(run) => open_run(alloc, run),
         Request::Program(run) => open_program(alloc, run),
+        Request::Resumed(run) => open_resumed(alloc, run),
         Request::Link {
             message,
             moves,

@@ -58,7 +58,7 @@ impl Video {
     }
 
     /// A chip before machine cycle t, with the display on or off, also in that cycle, and no picture.
-    fn before(t: u64, on: bool) -> Video
+    pub fn before(t: u64, on: bool) -> Video
         ensures { result ≡ at_cycle t on }
     {
         Video {

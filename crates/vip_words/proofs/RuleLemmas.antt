@@ -4,8 +4,8 @@ use Rattle.std.specs.List.{list_all, list_any}
 use Rattle.std.specs.Option.{option_or}
 use Rattle.std.specs.Prelude.{not, ◌&&◌, ◌||◌, ◌==◌, if◌then◌else◌, is_none, is_some, option_and_then, option_map}
 use Rattle.std.proofs.lemmas.Bool.{eq-eqb, eqb-false, eqb-true, ne_eqb}
-use Rattle.vip_words.specs.Asked.{asked_behind, asked_of_verb, bounds_by, check_by, code_by, columns_by, cycles_of, debug_by, demo_by, digest_by, dis_by, edition_by, either_by, entry_of, file_by, help_by, is_mixed, is_program, isa_by, lacks_source, link_by, moves_of, place_of, play_by, profile_by, program_by, register_of, resume_by, run_by, safe_by, seed_of, shown_by, source_by, start_by, timing_by, trace_by, two_registers, version_by, within_by}
-use Rattle.vip_words.specs.Broken.{RefusedByRule, alone, apart, both_given, broken_after, broken_behind, broken_form, broken_given, broken_words, dues, first_broken, is_due, miscounted, misread, names_of, needs_source, pairs, run_pairs, same_number, same_register, unknown}
+use Rattle.vip_words.specs.Asked.{any_by, asked_behind, asked_of_verb, bounds_by, check_by, code_by, columns_by, cycles_of, debug_by, demo_by, digest_by, dis_by, edition_by, either_by, entry_of, file_by, help_by, is_mixed, is_mixed_state, is_program, isa_by, lacks_source, link_by, moves_of, place_of, play_by, profile_by, program_by, register_of, resume_by, resumed_by, run_by, safe_by, save_by, seed_of, source_by, start_by, timing_by, trace_by, two_registers, version_by, within_by}
+use Rattle.vip_words.specs.Broken.{RefusedByRule, alone, apart, board_pairs, both_given, broken_after, broken_behind, broken_form, broken_given, broken_words, dues, first_broken, is_due, miscounted, misread, names_of, needs_source, pairs, run_pairs, same_number, same_register, unknown}
 use Rattle.vip_words.specs.Request.{Asked}
 use Rattle.vip_words.specs.Rules.{Given, Word, every_option, flag_option, given_by, has_values, is_accepted, is_given, is_known, is_once, keys_value, positional_words}
 use Rattle.vip_words.specs.Table.{Row, is_alone, is_why, places_of, row, verb_of}
@@ -18,6 +18,8 @@ use Rattle.vip_words.specs.declared.broken.Broken.TheVariants as broken
 use Rattle.vip_words.specs.declared.request.Entry.{Entry}
 use Rattle.vip_words.specs.declared.request.OwnText.TheVariants as own
 use Rattle.vip_words.specs.declared.request.PlainShow.TheVariants.{Trace, Pictures, State, Profile}
+use Rattle.vip_words.specs.declared.request.BoardShow.{BoardShow}
+use Rattle.vip_words.specs.declared.request.BoardShow.TheVariants as board
 use Rattle.vip_words.specs.declared.request.ProgramShow.{ProgramShow}
 use Rattle.vip_words.specs.declared.request.ProgramShow.TheVariants as program
 use Rattle.vip_words.specs.declared.request.Request.TheVariants as request
@@ -244,15 +246,62 @@ either_refused file cycles given shown program_shown r = by (lacks_source given)
         ∙ sym (either_none (is_program given) (is_mixed given) (given.has flag.State && (given.has flag.Tall || given.has flag.Asm)) last _ _
         (program_none (is_mixed given) _ (cycles_of cycles)) (run_refused file cycles given shown))
 
-shown_refused : (file cycles : Word) (given : Given) (shown : Show Word) (r : Rule Word)
-    → is_some (option_or (if is_some (cycles_of cycles) then None else Some r) (option_map apart (find (both_given given) ((flag.State, flag.Tall) ∷ (flag.State, flag.Asm) ∷ []))))
-    ≡ is_none (run_by file cycles given shown)
-shown_refused file cycles given shown r =
-    let last : Bool = not (is_some (cycles_of cycles)) in
-    read_or_pair (is_some (cycles_of cycles)) r _
-    ∙ ap (λ b. b || last) (found_pair given ((flag.State, flag.Tall) ∷ (flag.State, flag.Asm) ∷ [])
-    ∙ state_pairs (given.has flag.State) (given.has flag.Tall) (given.has flag.Asm))
-    ∙ sym (run_refused file cycles given shown)
+-- a run of a program's saved state, of a program, or of the language
+board_table : (rom ram state tall screen words at asm : Bool)
+    → ((rom && ram) || ((rom && tall) || ((rom && screen) || ((rom && words) || ((rom && at)
+    || ((ram && tall) || ((ram && screen) || ((ram && words) || ((ram && at)
+    || ((state && tall) || ((state && asm) || false)))))))))))
+    ≡ (if (rom || ram) && state then (rom && ram) || (tall || (screen || (words || (at || (asm || false)))))
+    else (if rom || ram then (rom && ram) || (state || (tall || (screen || (words || (at || false))))) else state && (tall || asm)))
+board_table true true true tall screen words at asm = refl
+board_table true true false tall screen words at asm = refl
+board_table true false true true screen words at asm = refl
+board_table true false true false true words at asm = refl
+board_table true false true false false true at asm = refl
+board_table true false true false false false true asm = refl
+board_table true false true false false false false asm = refl
+board_table true false false true screen words at asm = refl
+board_table true false false false true words at asm = refl
+board_table true false false false false true at asm = refl
+board_table true false false false false false true asm = refl
+board_table true false false false false false false asm = refl
+board_table false true true true screen words at asm = refl
+board_table false true true false true words at asm = refl
+board_table false true true false false true at asm = refl
+board_table false true true false false false true asm = refl
+board_table false true true false false false false asm = refl
+board_table false true false true screen words at asm = refl
+board_table false true false false true words at asm = refl
+board_table false true false false false true at asm = refl
+board_table false true false false false false true asm = refl
+board_table false true false false false false false asm = refl
+board_table false false state tall screen words at asm = state_pairs state tall asm
+
+any_refused : (file cycles : Word) (given : Given) (shown : Show Word) (board_shown : BoardShow Word) (r : Rule Word)
+    → is_some (option_or (if is_some (cycles_of cycles) then None else Some r) (option_or (needs_source given) (option_map apart (find (both_given given) board_pairs))))
+    ≡ is_none (any_by file cycles given shown board_shown)
+any_refused file cycles given shown board_shown r = by (lacks_source given)
+  where
+    last : Bool
+    last = not (is_some (cycles_of cycles))
+
+    started_by : Bool
+    started_by = given.has flag.State && (given.has flag.Tall || given.has flag.Asm)
+
+    by : (b : Bool)
+        → is_some (option_or (if is_some (cycles_of cycles) then None else Some r)
+        (option_or (if b then Some (rule.Needs flag.Source flag.Asm) else None) (option_map apart (find (both_given given) board_pairs))))
+        ≡ is_none (if b then None else if is_program given && given.has flag.State then resumed_by file cycles given board_shown
+        else if b then None else if is_program given then program_by file cycles given (program.Board board_shown) else run_by file cycles given shown)
+    by true = read_or_pair (is_some (cycles_of cycles)) r _
+    by false =
+        read_or_pair (is_some (cycles_of cycles)) r _
+        ∙ ap (λ b. b || last) (found_pair given board_pairs ∙ board_table (given.has flag.Rom) (given.has flag.Ram) (given.has flag.State) (given.has flag.Tall)
+        (given.has flag.Screen) (given.has flag.Words) (given.has flag.At) (given.has flag.Asm))
+        ∙ sym (either_none (is_program given && given.has flag.State) (is_mixed_state given) (if is_program given then is_mixed given else started_by) last _ _
+        (program_none (is_mixed_state given) _ (cycles_of cycles))
+        (either_none (is_program given) (is_mixed given) started_by last _ _
+        (program_none (is_mixed given) _ (cycles_of cycles)) (run_refused file cycles given shown)))
 
 -- the sources that the program has in it
 built_in_pairs : {S : Type 0} (sender receiver tall : Bool) (x y z : S) (f : S → Asked)
@@ -300,12 +349,12 @@ verb_refused verb.Play alone given named n =
     (λ file cycles. either_refused file cycles given (show.Plain Pictures) program.Pictures (rule.Misread due.Cycles cycles)) given.positional (n ∙ always alone 2)
 verb_refused verb.Debug alone given named n =
     three (λ ws. is_some (broken_by verb.Debug ws given) ≡ is_none (debug_by ws given)) (λ file cycles commands.
-    either_refused file cycles given (show.Commands commands (given.has flag.Echo) (columns_by given)) (program.Commands commands (given.has flag.Echo))
+    any_refused file cycles given (show.Commands commands (given.has flag.Echo) (columns_by given)) (board.Commands commands (given.has flag.Echo))
     (rule.Misread due.Cycles cycles)) given.positional
     (n ∙ always alone 3)
 verb_refused verb.Save alone given named n =
-    two (λ ws. is_some (broken_by verb.Save ws given) ≡ is_none (shown_by (show.Plain State) ws given))
-    (λ file cycles. shown_refused file cycles given (show.Plain State) (rule.Misread due.Cycles cycles)) given.positional
+    two (λ ws. is_some (broken_by verb.Save ws given) ≡ is_none (save_by ws given))
+    (λ file cycles. any_refused file cycles given (show.Plain State) board.State (rule.Misread due.Cycles cycles)) given.positional
     (n ∙ always alone 2)
 verb_refused verb.Profile alone given named n =
     two (λ ws. is_some (broken_by verb.Profile ws given) ≡ is_none (profile_by ws given))

@@ -25,6 +25,8 @@ use Rattle.vip_words.specs.declared.request.MadeGame.TheVariants.{Demo}
 use Rattle.vip_words.specs.declared.request.Memory.TheVariants.{Rom, Ram}
 use Rattle.vip_words.specs.declared.request.OwnText.TheVariants as own
 use Rattle.vip_words.specs.declared.request.PlainShow.TheVariants.{Trace, Pictures, State, Profile, Summary}
+use Rattle.vip_words.specs.declared.request.BoardShow.{BoardShow}
+use Rattle.vip_words.specs.declared.request.BoardShow.TheVariants as board
 use Rattle.vip_words.specs.declared.request.ProgramShow.{ProgramShow}
 use Rattle.vip_words.specs.declared.request.ProgramShow.TheVariants as program
 use Rattle.vip_words.specs.declared.request.Request.TheVariants as request
@@ -126,6 +128,16 @@ program_by file cycles given shown =
     (λ n. request.Program (record { code = code_by (given.has flag.Asm) (given.has flag.Source) file; memory = if given.has flag.Rom then Rom else Ram; keys = given.keys; limit = n; show = shown }))
     (cycles_of cycles)
 
+-- Words that are refused for a program's saved state: it is of one memory, and neither a game nor a source.
+abbrev pub is_mixed_state : Given → Bool
+is_mixed_state given = (given.has flag.Rom && given.has flag.Ram) || list_any given.has (flag.Tall ∷ flag.Screen ∷ flag.Words ∷ flag.At ∷ flag.Asm ∷ [])
+
+-- a run of a program from the saved state of this name, for as many cycles as a word says, that is shown so
+abbrev pub resumed_by : Word → Word → Given → BoardShow Word → Option Asked
+resumed_by file cycles given shown =
+    if is_mixed_state given then None
+    else option_map (λ n. request.Resumed (record { state = file; keys = given.keys; limit = n; show = shown })) (cycles_of cycles)
+
 -- the lines of a source are to be told where there is none
 abbrev pub lacks_source : Given → Bool
 lacks_source given = given.has flag.Source && not (given.has flag.Asm)
@@ -135,6 +147,13 @@ abbrev pub either_by : Word → Word → Given → Show Word → ProgramShow Wor
 either_by file cycles given shown program_shown =
     if lacks_source given then None
     else if is_program given then program_by file cycles given program_shown else run_by file cycles given shown
+
+-- a run of a program's saved state where the options ask for one, and else one of a program or of the language
+abbrev pub any_by : Word → Word → Given → Show Word → BoardShow Word → Option Asked
+any_by file cycles given shown board_shown =
+    if lacks_source given then None
+    else if is_program given && given.has flag.State then resumed_by file cycles given board_shown
+    else either_by file cycles given shown (program.Board board_shown)
 
 -- ---- the positional words of each verb
 
@@ -158,13 +177,13 @@ profile_by _ given = None
 -- FILE CYCLES COMMANDS
 abbrev pub debug_by : List Word → Given → Option Asked
 debug_by (file ∷ cycles ∷ commands ∷ []) given =
-    either_by file cycles given (show.Commands commands (given.has flag.Echo) (columns_by given)) (program.Commands commands (given.has flag.Echo))
+    any_by file cycles given (show.Commands commands (given.has flag.Echo) (columns_by given)) (board.Commands commands (given.has flag.Echo))
 debug_by _ given = None
 
--- FILE CYCLES, where the file is a game or a saved state
-abbrev pub shown_by : Show Word → List Word → Given → Option Asked
-shown_by shown (file ∷ cycles ∷ []) given = run_by file cycles given shown
-shown_by shown _ given = None
+-- FILE CYCLES
+abbrev pub save_by : List Word → Given → Option Asked
+save_by (file ∷ cycles ∷ []) given = any_by file cycles given (show.Plain State) board.State
+save_by _ given = None
 
 -- STATE CYCLES: its trace
 abbrev pub resume_by : List Word → Given → Option Asked
@@ -258,7 +277,7 @@ abbrev pub asked_of_verb : Verb → Given → Option Asked
 asked_of_verb verb.Trace given = trace_by given.positional given
 asked_of_verb verb.Play given = play_by given.positional given
 asked_of_verb verb.Debug given = debug_by given.positional given
-asked_of_verb verb.Save given = shown_by (show.Plain State) given.positional given
+asked_of_verb verb.Save given = save_by given.positional given
 asked_of_verb verb.Profile given = profile_by given.positional given
 asked_of_verb verb.Resume given = resume_by given.positional given
 asked_of_verb verb.Demo given = demo_by given.positional

@@ -88,12 +88,19 @@ run_pairs =
     ∷ (flag.Ram, flag.State) ∷ (flag.Ram, flag.Tall) ∷ (flag.Ram, flag.Screen) ∷ (flag.Ram, flag.Words) ∷ (flag.Ram, flag.At)
     ∷ (flag.State, flag.Tall) ∷ (flag.State, flag.Asm) ∷ []
 
+-- of a program's saved state the board alone is shown
+abbrev pub board_pairs : List (Flag × Flag)
+board_pairs =
+    (flag.Rom, flag.Ram) ∷ (flag.Rom, flag.Tall) ∷ (flag.Rom, flag.Screen) ∷ (flag.Rom, flag.Words) ∷ (flag.Rom, flag.At)
+    ∷ (flag.Ram, flag.Tall) ∷ (flag.Ram, flag.Screen) ∷ (flag.Ram, flag.Words) ∷ (flag.Ram, flag.At)
+    ∷ (flag.State, flag.Tall) ∷ (flag.State, flag.Asm) ∷ []
+
 -- the pairs of a verb's options that don't go together
 abbrev pub pairs : Verb → List (Flag × Flag)
 pairs verb.Trace = run_pairs
 pairs verb.Play = run_pairs
-pairs verb.Debug = run_pairs
-pairs verb.Save = (flag.State, flag.Tall) ∷ (flag.State, flag.Asm) ∷ []
+pairs verb.Debug = board_pairs
+pairs verb.Save = board_pairs
 pairs verb.Profile = run_pairs
 pairs verb.Source = (flag.Sender, flag.Receiver) ∷ (flag.Sender, flag.Tall) ∷ (flag.Receiver, flag.Tall) ∷ []
 pairs _ = []
@@ -122,6 +129,7 @@ abbrev pub alone : Verb → Given → Option (Rule Word)
 alone verb.Trace given = needs_source given
 alone verb.Play given = needs_source given
 alone verb.Debug given = needs_source given
+alone verb.Save given = needs_source given
 alone verb.Profile given = needs_source given
 alone _ given = None
 

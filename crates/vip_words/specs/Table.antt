@@ -39,7 +39,7 @@ row verb.Debug =
     made_row (codes "debug") (codes "FILE" ∷ codes "CYCLES" ∷ codes "COMMANDS" ∷ []) false (keys_option ∷ map flag_option (flag.Words ∷ flag.Tall ∷ flag.State ∷ flag.Asm ∷ flag.Source ∷ flag.Echo ∷ flag.Rom ∷ flag.Ram ∷ []))
     (codes "the answers to commands") (codes "vip debug count.ch8 99999 count.debug") (codes "FORMATS.md, The debugger's commands")
 row verb.Save =
-    made_row (codes "save") (codes "FILE" ∷ codes "CYCLES" ∷ []) false (keys_option ∷ map flag_option (flag.Tall ∷ flag.State ∷ flag.Asm ∷ []))
+    made_row (codes "save") (codes "FILE" ∷ codes "CYCLES" ∷ []) false (keys_option ∷ map flag_option (flag.Tall ∷ flag.State ∷ flag.Asm ∷ flag.Rom ∷ flag.Ram ∷ []))
     (codes "the state of the machine as a file") (codes "vip save maze.ch8 300000 > maze.state") (codes "FORMATS.md, A machine state")
 row verb.Profile =
     made_row (codes "profile") (codes "FILE" ∷ codes "CYCLES" ∷ []) false (keys_option ∷ map flag_option (flag.Tall ∷ flag.State ∷ flag.Asm ∷ flag.Source ∷ flag.Rom ∷ flag.Ram ∷ []))
@@ -110,6 +110,10 @@ either_lines =
     ∷ codes "of CHIP-8, a program's in words of the processor."
     ∷ []
 
+-- of the two verbs that go on from a program's saved state, too
+abbrev pub state_lines : List (List ℕ)
+state_lines = either_lines ++ codes "With --state and --rom or --ram it is a saved state of a program." ∷ []
+
 abbrev pub command_lines : List (List ℕ)
 command_lines =
     codes "COMMANDS has one of these a line; A is an address, or with --asm a name:"
@@ -133,8 +137,8 @@ command_lines =
 abbrev pub notes : Verb → List (List ℕ)
 notes verb.Trace = either_lines
 notes verb.Play = either_lines
-notes verb.Debug = either_lines ++ command_lines
-notes verb.Save = codes "FILE is a game for the interpreter, with --state a saved state, and with --asm a" ∷ codes "game's source in words of CHIP-8." ∷ []
+notes verb.Debug = state_lines ++ command_lines
+notes verb.Save = state_lines
 notes verb.Profile = either_lines
 notes verb.Timing =
     codes "FILE is a source in words of the processor, and ENTRY a name or an address of a"

@@ -22,6 +22,8 @@ use Rattle.vip_words.specs.declared.broken.Due.{Due}
 use Rattle.vip_words.specs.declared.broken.Due.TheVariants as due
 use Rattle.vip_words.specs.declared.broken.Rule.{Rule}
 use Rattle.vip_words.specs.declared.broken.Rule.TheVariants as rule
+use Rattle.vip_words.specs.declared.request.BoardShow.{BoardShow}
+use Rattle.vip_words.specs.declared.request.BoardShow.TheVariants as board
 use Rattle.vip_words.specs.declared.request.BuiltIn.{BuiltIn}
 use Rattle.vip_words.specs.declared.request.BuiltIn.TheVariants.{Interpreter, Sender, Receiver}
 use Rattle.vip_words.specs.declared.request.Code.{Code}
@@ -37,6 +39,7 @@ use Rattle.vip_words.specs.declared.request.ProgramRequest.{ProgramRequest}
 use Rattle.vip_words.specs.declared.request.ProgramShow.{ProgramShow}
 use Rattle.vip_words.specs.declared.request.ProgramShow.TheVariants as program
 use Rattle.vip_words.specs.declared.request.Request.TheVariants as request
+use Rattle.vip_words.specs.declared.request.ResumedRequest.{ResumedRequest}
 use Rattle.vip_words.specs.declared.request.RunRequest.{RunRequest}
 use Rattle.vip_words.specs.declared.request.Show.{Show}
 use Rattle.vip_words.specs.declared.request.Show.TheVariants as show
@@ -129,14 +132,22 @@ abbrev pub run_text : RunRequest Word → List ℕ
 run_text run =
     show_verb run.show ++ (codes " of " ++ (start_text run.start ++ (codes ", up to cycle " ++ (decimal run.limit ++ (show_text run.show ++ keys_text run.keys)))))
 
+abbrev pub board_verb : BoardShow Word → List ℕ
+board_verb (board.Commands file echo) = codes "debug"
+board_verb board.State = codes "save"
+
+abbrev pub board_text : BoardShow Word → List ℕ
+board_text (board.Commands file echo) = codes ", by the commands in " ++ (file ++ text_if echo (codes ", with --echo"))
+board_text board.State = []
+
 abbrev pub program_verb : ProgramShow Word → List ℕ
 program_verb program.Trace = codes "trace"
 program_verb program.Pictures = codes "play"
 program_verb program.Profile = codes "profile"
-program_verb (program.Commands file echo) = codes "debug"
+program_verb (program.Board shown) = board_verb shown
 
 abbrev pub program_show_text : ProgramShow Word → List ℕ
-program_show_text (program.Commands file echo) = codes ", by the commands in " ++ (file ++ text_if echo (codes ", with --echo"))
+program_show_text (program.Board shown) = board_text shown
 program_show_text _ = []
 
 abbrev pub memory_text : Memory → List ℕ
@@ -147,6 +158,11 @@ abbrev pub program_text : ProgramRequest Word → List ℕ
 program_text run =
     program_verb run.show ++ (codes " of the program in " ++ (code_text run.code ++ (memory_text run.memory ++ (codes ", up to cycle " ++ (decimal run.limit
     ++ (program_show_text run.show ++ keys_text run.keys))))))
+
+abbrev pub resumed_text : ResumedRequest Word → List ℕ
+resumed_text run =
+    board_verb run.show ++ (codes " of the saved state of a program in " ++ (run.state ++ (codes ", up to cycle " ++ (decimal run.limit
+    ++ (board_text run.show ++ keys_text run.keys)))))
 
 -- in which words a source is, or a disassembly
 abbrev pub isa_text : Isa → List ℕ
@@ -184,6 +200,7 @@ own_name (own.Why words) = codes "why"
 abbrev pub request_text : Asked → List ℕ
 request_text (request.Run run) = run_text run
 request_text (request.Program run) = program_text run
+request_text (request.Resumed run) = resumed_text run
 request_text (request.Link file moves number) =
     codes "link of the message in " ++ (file ++ (codes ", by " ++ (decimal moves ++ (codes " moves of schedule " ++ decimal number))))
 request_text (request.Text verb file) = file_text verb file

@@ -175,7 +175,7 @@ fn alone<'a>(verb: Verb, given: &Given<'a>) -> Option<Rule<&'a str>>
     ensures { option_map rule_of result ≡ alone verb (seen_given given.now) }
 {
     match verb {
-        Verb::Trace | Verb::Play | Verb::Debug | Verb::Profile if lacks_source(given) => {
+        Verb::Trace | Verb::Play | Verb::Debug | Verb::Save | Verb::Profile if lacks_source(given) => {
             Some(Rule::Needs(Flag::Source, Flag::Asm))
         }
         _ => None,
@@ -188,7 +188,7 @@ fn pairs(verb: Verb) -> &'static [(Flag, Flag)]
     ensures { result.now ≡ pairs verb }
 {
     match verb {
-        Verb::Trace | Verb::Play | Verb::Debug | Verb::Profile => &[
+        Verb::Trace | Verb::Play | Verb::Profile => &[
             (Flag::Rom, Flag::Ram),
             (Flag::Rom, Flag::State),
             (Flag::Rom, Flag::Tall),
@@ -203,7 +203,19 @@ fn pairs(verb: Verb) -> &'static [(Flag, Flag)]
             (Flag::State, Flag::Tall),
             (Flag::State, Flag::Asm),
         ],
-        Verb::Save => &[(Flag::State, Flag::Tall), (Flag::State, Flag::Asm)],
+        Verb::Debug | Verb::Save => &[
+            (Flag::Rom, Flag::Ram),
+            (Flag::Rom, Flag::Tall),
+            (Flag::Rom, Flag::Screen),
+            (Flag::Rom, Flag::Words),
+            (Flag::Rom, Flag::At),
+            (Flag::Ram, Flag::Tall),
+            (Flag::Ram, Flag::Screen),
+            (Flag::Ram, Flag::Words),
+            (Flag::Ram, Flag::At),
+            (Flag::State, Flag::Tall),
+            (Flag::State, Flag::Asm),
+        ],
         Verb::Source => &[
             (Flag::Sender, Flag::Receiver),
             (Flag::Sender, Flag::Tall),

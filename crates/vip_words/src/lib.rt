@@ -61,8 +61,9 @@ pub use given::WordsFail;
 pub use moves::Moves;
 pub use place::Place;
 pub use request::{
-    BuiltIn, Code, Entry, EntryName, FileName, MadeGame, Memory, OwnText, PlainShow,
-    ProgramRequest, ProgramShow, Request, RunRequest, Show, Start, TextVerb, Words, read_words,
+    BoardShow, BuiltIn, Code, Entry, EntryName, FileName, MadeGame, Memory, OwnText, PlainShow,
+    ProgramRequest, ProgramShow, Request, ResumedRequest, RunRequest, Show, Start, TextVerb, Words,
+    read_words,
 };
 pub use table::{Row, VERBS, Verb, about, with_value};
 pub use why::{remark, why_line};

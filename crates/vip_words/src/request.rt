@@ -1,9 +1,9 @@
 //! What the words of a command line ask for.
 
 ghost use Rattle.std.specs.Prelude.{◌≡◌, IfErr, IfOk, IsErrOf, None, Some, map, option_map, string_bytes};
-ghost use Rattle.vip_words.specs.Asked.{asked_by, asked_of_verb, built_in_by, code_by, columns_by, edition_by, either_by, entry_of, is_mixed, is_program, isa_by, lacks_source, name_or, number_of, program_by, register_of, run_by, seed_of, start_by, why_of};
+ghost use Rattle.vip_words.specs.Asked.{any_by, asked_by, asked_of_verb, built_in_by, code_by, columns_by, edition_by, either_by, entry_of, is_mixed, is_mixed_state, is_program, isa_by, lacks_source, name_or, number_of, program_by, register_of, resumed_by, run_by, seed_of, start_by, why_of};
 ghost use Rattle.vip_words.specs.Given.{seen_given};
-ghost use Rattle.vip_words.specs.Request.{asked_of, code_of, program_show_of, show_of, start_of};
+ghost use Rattle.vip_words.specs.Request.{asked_of, board_show_of, code_of, program_show_of, show_of, start_of};
 ghost use Rattle.vip_words.specs.declared.table.Verb.TheVariants as verb;
 
 use crate::flag::Flag;
@@ -26,6 +26,8 @@ pub enum Request<N> {
     Run(RunRequest<N>),
     /// A run of a program for the processor that is shown.
     Program(ProgramRequest<N>),
+    /// A run of a program that goes on from a saved state and is shown.
+    Resumed(ResumedRequest<N>),
     /// Two boards that are joined.
     Link {
         /// What one board sends to the other.
@@ -267,8 +269,28 @@ pub enum ProgramShow<N> {
     Pictures,
     /// Where its time goes, by its instructions.
     Profile,
+    /// What needs the board alone.
+    Board(BoardShow<N>),
+}
+
+/// What is shown of a program's board, whatever moves came before.
+#[derive(Drop)]
+pub enum BoardShow<N> {
     /// The answers to the debugger's commands; and whether each command stands before its answer.
     Commands { file: N, echo: bool },
+    /// The state in which the run ends, as a state file.
+    State,
+}
+
+/// A run of a program that goes on from a saved state: from which one, under which keys, how long, and what is shown of it.
+#[derive(Drop)]
+pub struct ResumedRequest<N> {
+    pub state: N,
+    /// The key script, where there is one.
+    pub keys: Option<N>,
+    /// Up to which machine cycle, counted from reset.
+    pub limit: Limit,
+    pub show: BoardShow<N>,
 }
 
 /// Where a routine is entered: at the address that a name stands for, and else at the one that its digits say.
@@ -473,6 +495,39 @@ pub(crate) fn lacks_source(given: &Given) -> bool
     given.has(Flag::Source) && !given.has(Flag::Asm)
 }
 
+/// The flags that speak of a game, or of a source.
+const GAME_OR_SOURCE_FLAGS: [Flag; 5] =
+    [Flag::Tall, Flag::Screen, Flag::Words, Flag::At, Flag::Asm];
+
+/// Whether the options are such as a program's saved state can't have: both memories, or an option of a game or of a source.
+fn is_mixed_state(given: &Given) -> bool
+    ensures { result ≡ is_mixed_state (seen_given given.now) }
+{
+    let both_memories = given.has(Flag::Rom) && given.has(Flag::Ram);
+    both_memories || given.has_any(&GAME_OR_SOURCE_FLAGS)
+}
+
+/// A run of a program from the saved state of this name, for as many cycles as a word says, that is shown so.
+fn resumed_request<'a>(
+    state: &'a str,
+    cycles: &str,
+    given: &Given<'a>,
+    show: BoardShow<&'a str>,
+) -> Option<Request<&'a str>>
+    ensures { option_map asked_of result ≡ resumed_by state.entry.now cycles.now (seen_given given.now) (board_show_of show.entry) }
+{
+    if is_mixed_state(given) {
+        return None;
+    }
+    let limit = Limit::read(cycles.as_bytes())?;
+    Some(Request::Resumed(ResumedRequest {
+        state,
+        keys: given.keys,
+        limit,
+        show,
+    }))
+}
+
 /// A run of a program where the options ask for one, and else one of the language.
 fn either_request<'a>(
     file: &'a str,
@@ -491,6 +546,27 @@ fn either_request<'a>(
         program_request(file, cycles, given, program_show)
     } else {
         run_request(file, cycles, given, show)
+    }
+}
+
+/// A run of a program's saved state where the options ask for one, and else one of a program or of the language.
+fn any_request<'a>(
+    file: &'a str,
+    cycles: &str,
+    given: &Given<'a>,
+    show: Show<&'a str>,
+    board_show: BoardShow<&'a str>,
+) -> Option<Request<&'a str>>
+    ensures { option_map asked_of result
+        ≡ any_by file.entry.now cycles.now (seen_given given.now) (show_of show.entry) (board_show_of board_show.entry) }
+{
+    if lacks_source(given) {
+        return None;
+    }
+    if is_program(given) && given.has(Flag::State) {
+        resumed_request(file, cycles, given, board_show)
+    } else {
+        either_request(file, cycles, given, show, ProgramShow::Board(board_show))
     }
 }
 
@@ -537,11 +613,11 @@ fn debug_request<'a>(given: &Given<'a>) -> Option<Request<&'a str>>
         echo,
         columns: columns_by(given),
     };
-    let program_show = ProgramShow::Commands {
+    let board_show = BoardShow::Commands {
         file: commands,
         echo,
     };
-    either_request(file, cycles, given, show, program_show)
+    any_request(file, cycles, given, show, board_show)
 }
 
 fn save_request<'a>(given: &Given<'a>) -> Option<Request<&'a str>>
@@ -550,7 +626,8 @@ fn save_request<'a>(given: &Given<'a>) -> Option<Request<&'a str>>
     let Positional::Two(file, cycles) = given.positional else {
         return None;
     };
-    run_request(file, cycles, given, Show::Plain(PlainShow::State))
+    let show = Show::Plain(PlainShow::State);
+    any_request(file, cycles, given, show, BoardShow::State)
 }
 
 fn profile_request<'a>(given: &Given<'a>) -> Option<Request<&'a str>>

@@ -2,15 +2,15 @@
 
 ghost use Rattle.std.specs.Prelude.{◌≡◌, IfOk, Some, codes, decimal, map, option_map, string_bytes};
 ghost use Rattle.chip8_lang.specs.declared.view.Edition.{Edition};
-ghost use Rattle.vip_words.specs.Request.{asked_of, code_of, map_program, map_run, program_show_of, show_of, start_of};
+ghost use Rattle.vip_words.specs.Request.{asked_of, board_show_of, code_of, map_program, map_run, program_show_of, show_of, start_of};
 ghost use Rattle.vip_words.specs.Spelled.{broken_of, rule_of};
-ghost use Rattle.vip_words.specs.Why.{broken_text, built_in_name, code_hint, code_text, columns_text, due_text, file_text, game_text, hint, is_source_name, isa_text, keys_text, memory_text, name_text, own_name, plain_text, plain_verb, program_show_text, program_text, program_verb, refused_text, remark, request_text, rule_text, run_text, show_text, show_verb, start_hint, start_text, text_if, why_line};
+ghost use Rattle.vip_words.specs.Why.{board_verb, broken_text, built_in_name, code_hint, code_text, columns_text, due_text, file_text, game_text, hint, is_source_name, isa_text, keys_text, memory_text, name_text, own_name, plain_text, plain_verb, program_show_text, program_text, program_verb, refused_text, remark, request_text, rule_text, run_text, show_text, show_verb, start_hint, start_text, text_if, why_line};
 
 use crate::broken::{Broken, Due, Rule, first_broken};
 use crate::given::WordsFail;
 use crate::request::{
-    BuiltIn, Code, MadeGame, Memory, OwnText, PlainShow, ProgramRequest, ProgramShow, Request,
-    RunRequest, Show, Start, TextVerb, read_words,
+    BoardShow, BuiltIn, Code, MadeGame, Memory, OwnText, PlainShow, ProgramRequest, ProgramShow,
+    Request, ResumedRequest, RunRequest, Show, Start, TextVerb, read_words,
 };
 use crate::table::Verb;
 use asm_lex::Isa;
@@ -274,6 +274,34 @@ impl fmt::Display for RunRequest<&str> {
     }
 }
 
+/// The verb of what is shown of a program's board.
+fn board_verb(show: &BoardShow<&str>) -> &'static str
+    ensures { result.now ≡ board_verb (board_show_of show.now) }
+{
+    match show {
+        BoardShow::Commands { .. } => "debug",
+        BoardShow::State => "save",
+    }
+}
+
+impl fmt::Display for BoardShow<&str> {
+    ghost use Rattle.std.specs.Prelude.{Some};
+    ghost use Rattle.vip_words.specs.Request.{board_show_of};
+    ghost use Rattle.vip_words.specs.Why.{board_text};
+
+    ghost output = { λ show. Some (board_text (board_show_of show)) };
+
+    fn fmt<W: fmt::Write>(&self, f: &mut fmt::Formatter<W>) -> fmt::Result {
+        match self {
+            BoardShow::Commands { file, echo } => {
+                let echo = text_if(*echo, ", with --echo");
+                write!(f, ", by the commands in {file}{echo}")
+            }
+            BoardShow::State => Ok(()),
+        }
+    }
+}
+
 /// The verb of what is shown of a program's run.
 fn program_verb(show: &ProgramShow<&str>) -> &'static str
     ensures { result.now ≡ program_verb (program_show_of show.now) }
@@ -282,7 +310,7 @@ fn program_verb(show: &ProgramShow<&str>) -> &'static str
         ProgramShow::Trace => "trace",
         ProgramShow::Pictures => "play",
         ProgramShow::Profile => "profile",
-        ProgramShow::Commands { .. } => "debug",
+        ProgramShow::Board(shown) => board_verb(shown),
     }
 }
 
@@ -295,10 +323,7 @@ impl fmt::Display for ProgramShow<&str> {
 
     fn fmt<W: fmt::Write>(&self, f: &mut fmt::Formatter<W>) -> fmt::Result {
         match self {
-            ProgramShow::Commands { file, echo } => {
-                let echo = text_if(*echo, ", with --echo");
-                write!(f, ", by the commands in {file}{echo}")
-            }
+            ProgramShow::Board(shown) => write!(f, "{shown}"),
             ProgramShow::Trace | ProgramShow::Pictures | ProgramShow::Profile => Ok(()),
         }
     }
@@ -331,6 +356,26 @@ impl fmt::Display for ProgramRequest<&str> {
         write!(
             f,
             "{verb} of the program in {code}{memory}, up to cycle {cycles}{show}{keys}"
+        )
+    }
+}
+
+impl fmt::Display for ResumedRequest<&str> {
+    ghost use Rattle.std.specs.Prelude.{Some};
+    ghost use Rattle.vip_words.specs.Request.{map_resumed};
+    ghost use Rattle.vip_words.specs.Why.{resumed_text};
+
+    ghost output = { λ run. Some (resumed_text (map_resumed (λ name. name.now) run)) };
+
+    fn fmt<W: fmt::Write>(&self, f: &mut fmt::Formatter<W>) -> fmt::Result {
+        let verb = board_verb(&self.show);
+        let state = self.state;
+        let cycles = self.limit.cycles();
+        let show = &self.show;
+        let keys = Keys(self.keys);
+        write!(
+            f,
+            "{verb} of the saved state of a program in {state}, up to cycle {cycles}{show}{keys}"
         )
     }
 }
@@ -454,6 +499,7 @@ impl fmt::Display for Request<&str> {
         match self {
             Request::Run(run) => write!(f, "{run}"),
             Request::Program(run) => write!(f, "{run}"),
+            Request::Resumed(run) => write!(f, "{run}"),
             Request::Link {
                 message,
                 moves,

@@ -1,7 +1,7 @@
 use Rattle.std.proofs.Common.{Err, Global, ap, refl, sym, subst}
 use Rattle.chip8_lang.specs.State.{memory_size}
 use Rattle.vip_words.specs.Request.{asked_of, code_of}
-use Rattle.vip_words.specs.declared.request.Request.TheVariants.{Certify, Program, Run, Safe}
+use Rattle.vip_words.specs.declared.request.Request.TheVariants.{Certify, Program, Resumed, Run, Safe}
 use Rattle.vip_tools.specs.Files.{game_kind, LoadAnswers}
 use Rattle.vip_tools.proofs.FilesLemmas.{loads-none, loads-one, refused-one}
 use Rattle.vip_tools.proofs.LoadingLemmas.{code-shape, loads-code, loads-code-and, loads-pair, refused-pair}
@@ -25,6 +25,15 @@ returns-in_err-run-in-Program g c =
 
 pub returns-in_ok-run-in-Program : goal.returns-in_ok-run-in-Program
 returns-in_ok-run-in-Program g c = rw c.in-Program.is (record { shape = ap Program c.in_ok-run-in-Program.ensures.0; loads = c.in_ok-run-in-Program.ensures.1 })
+
+pub returns-in_err-run-in-Resumed : goal.returns-in_err-run-in-Resumed
+returns-in_err-run-in-Resumed g c =
+    passed (LoadAnswers {Z = Global} (g.F.Files.meaning c.args.files.now) (g.F.Files.meaning c.load_resumed.new.files) (asked_of c.args.request)) _ _ c.from_residual-in_err-run-in-Resumed.ensures.1
+    (subst (λ r. LoadAnswers {Z = Global} (g.F.Files.meaning c.args.files.now) (g.F.Files.meaning c.load_resumed.new.files) (asked_of r) (Err c.in_err-run-in-Resumed.field-0.0)) (sym c.in-Resumed.is)
+    c.in_err-run-in-Resumed.ensures)
+
+pub returns-in_ok-run-in-Resumed : goal.returns-in_ok-run-in-Resumed
+returns-in_ok-run-in-Resumed g c = rw c.in-Resumed.is (record { shape = ap Resumed c.in_ok-run-in-Resumed.ensures.0; loads = c.in_ok-run-in-Resumed.ensures.1 })
 
 pub returns-in_err-message-in-Link : goal.returns-in_err-message-in-Link
 returns-in_err-message-in-Link g c =

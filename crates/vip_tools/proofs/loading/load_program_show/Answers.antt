@@ -1,18 +1,19 @@
-use Rattle.std.proofs.Common.{Err, Global, refl, sym, subst}
+use Rattle.std.proofs.Common.{Err, Global, ap, refl, sym, subst}
 use Rattle.vip_words.specs.Request.{program_show_of}
+use Rattle.vip_words.specs.declared.request.ProgramShow.TheVariants.{Board}
 use Rattle.vip_tools.specs.Loading.{ProgramShowLoads}
-use Rattle.vip_tools.proofs.FilesLemmas.{loads-none, loads-one, refused-one}
+use Rattle.vip_tools.proofs.FilesLemmas.{loads-none}
 use Rattle.vip_tools.proofs.WorkLemmas.{passed}
 use Rattle.vip_tools.proofs.loading.load_program_show.Goals as goal
 
-pub returns-in_err-file-in-Commands : goal.returns-in_err-file-in-Commands
-returns-in_err-file-in-Commands g c =
-    passed (ProgramShowLoads {Z = Global} (g.F.Files.meaning c.args.files.now) (g.F.Files.meaning c.open_file.new.files) (program_show_of c.args.show)) _ _ c.from_residual.ensures.1
-    (subst (λ x. ProgramShowLoads {Z = Global} (g.F.Files.meaning c.args.files.now) (g.F.Files.meaning c.open_file.new.files) (program_show_of x) (Err c.in_err-file-in-Commands.field-0.0)) (sym c.in-Commands.is)
-    (refused-one _ _ _ _ c.commands_file.ensures c.in_err-file-in-Commands.field-0.0 c.in_err-file-in-Commands.ensures))
+pub returns-in_err-show-in-Board : goal.returns-in_err-show-in-Board
+returns-in_err-show-in-Board g c =
+    passed (ProgramShowLoads {Z = Global} (g.F.Files.meaning c.args.files.now) (g.F.Files.meaning c.load_board_show.new.files) (program_show_of c.args.show)) _ _ c.from_residual.ensures.1
+    (subst (λ x. ProgramShowLoads {Z = Global} (g.F.Files.meaning c.args.files.now) (g.F.Files.meaning c.load_board_show.new.files) (program_show_of x) (Err c.in_err-show-in-Board.field-0.0)) (sym c.in-Board.is)
+    c.in_err-show-in-Board.ensures)
 
-pub returns-in_ok-file-in-Commands : goal.returns-in_ok-file-in-Commands
-returns-in_ok-file-in-Commands g c = rw c.in-Commands.is (refl, loads-one _ _ _ _ c.commands_file.ensures c.in_ok-file-in-Commands.file c.in_ok-file-in-Commands.ensures)
+pub returns-in_ok-show-in-Board : goal.returns-in_ok-show-in-Board
+returns-in_ok-show-in-Board g c = rw c.in-Board.is (ap Board c.in_ok-show-in-Board.ensures.0, c.in_ok-show-in-Board.ensures.1)
 
 pub returns-in-Trace : goal.returns-in-Trace
 returns-in-Trace g c = rw c.in-Trace.is (refl, loads-none _)

@@ -18,6 +18,12 @@ perform_program-requires g c = rw c.in-Program.is at c.requires
 pub returns-in-Program : goal.returns-in-Program
 returns-in-Program g c = rw c.in-Program.is c.perform_program.ensures
 
+pub perform_board-requires : goal.perform_board-requires
+perform_board-requires g c = rw c.in-Resumed.is at c.requires
+
+pub returns-in-Resumed : goal.returns-in-Resumed
+returns-in-Resumed g c = rw c.in-Resumed.is c.perform_board.ensures
+
 pub put_text-requires : goal.put_text-requires
 put_text-requires g c = rw c.in-Text.is at c.requires
 

@@ -13,6 +13,12 @@ returns-in-Run c = rw c.in-Run.is c.open_run.ensures
 pub returns-in-Program : goal.returns-in-Program
 returns-in-Program c = rw c.in-Program.is c.open_program.ensures
 
+pub returns-in-Resumed : goal.returns-in-Resumed
+returns-in-Resumed c = rw c.in-Resumed.is c.open_resumed.ensures
+
+pub open_resumed-requires : goal.open_resumed-requires
+open_resumed-requires c = rw c.in-Resumed.is at c.requires
+
 pub open_run-requires : goal.open_run-requires
 open_run-requires c = rw c.in-Run.is at c.requires
 

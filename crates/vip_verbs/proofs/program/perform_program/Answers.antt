@@ -1,5 +1,5 @@
 use Rattle.std.proofs.Common.{arith}
-use Rattle.vip_verbs.proofs.ProgramLemmas.{program-debugs, program-performs}
+use Rattle.vip_verbs.proofs.ProgramLemmas.{program-performs, standing-of}
 use Rattle.vip_verbs.proofs.program.perform_program.Goals as goal
 
 pub returns-in-Trace : goal.returns-in-Trace
@@ -15,12 +15,8 @@ show_profile-requires g c =
 pub returns-in-Profile : goal.returns-in-Profile
 returns-in-Profile g c = rw (c.in-Profile.is, c.program_ran-in-Profile.ensures) (program-performs _ _ _ _ _ _ c.show_profile.ensures)
 
-pub run_program_commands-requires : goal.run_program_commands-requires
-run_program_commands-requires g c =
-    let begins = c.requires.begins in record { boundary = c.requires.boundary; within = omega (arith, begins) }
+pub perform_board-requires : goal.perform_board-requires
+perform_board-requires g c = standing-of c.args.board.now c.requires
 
-pub returns-in-Commands : goal.returns-in-Commands
-returns-in-Commands g c =
-    let s = c.args.board.now in
-    rw (c.in-Commands.is, c.program_ran-in-Commands.ensures)
-    (program-debugs c.in-Commands.origins c.args.limit c.in-Commands.commands s _ _ _ _ c.run_program_commands.ensures)
+pub returns-in-Board : goal.returns-in-Board
+returns-in-Board g c = rw c.in-Board.is c.perform_board.ensures
