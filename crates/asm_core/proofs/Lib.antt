@@ -6,6 +6,7 @@ pub mod PassOne
 pub mod PassTwo
 pub mod OnePass
 pub mod Marking
+pub mod Below
 pub mod Surveys
 pub mod Agrees
 mod Placing

@@ -1,6 +1,6 @@
 -- The labels of a source, as they are shown: each has an address, and the line that names it.
-use Rattle.std.specs.Prelude.{◌≡◌, ◌==◌, ◌+◌, ◌<◌, ℕ, List, [], ◌++◌, length, map, filter, drop, get_or, filter_map, codes, Option, Some, None}
-use Rattle.std.specs.List.{range_with_len}
+use Rattle.std.specs.Prelude.{◌≡◌, ◌==◌, ◌+◌, ◌<◌, nat_lt, ℕ, Bool, List, [], ◌++◌, length, map, filter, drop, get_or, filter_map, codes, Option, Some, None}
+use Rattle.std.specs.List.{last_or, range_with_len}
 use Rattle.vip_byte.specs.Text.{newline}
 use Rattle.asm_lex.specs.declared.shape.Isa.{Isa}
 use Rattle.asm_lex.specs.Parts.{code_of, label_of}
@@ -36,6 +36,14 @@ labels_at labels address = filter (λ label. label.0 == address) labels
 -- the lines that show the labels of an address
 abbrev pub label_lines : List (ℕ × List ℕ) → ℕ → List (List ℕ)
 label_lines labels address = map (λ label. label.1) (labels_at labels address)
+
+-- a label has this address
+abbrev pub has_label : List (ℕ × List ℕ) → ℕ → Bool
+has_label labels address = nat_lt 0 (length (labels_at labels address))
+
+-- the greatest address of a label at or below an address
+unfoldable pub label_below : List (ℕ × List ℕ) → ℕ → Option ℕ
+label_below labels address = last_or None (filter (has_label labels) (range_with_len 0 (address + 1)))
 
 -- ---- how they are found
 

@@ -30,6 +30,10 @@ origins_code =
 abbrev pub shown_texts : List LineText → List (List ℕ)
 shown_texts texts = map (λ text. text.bytes.items) texts
 
+abbrev pub has_texts : List (List ℕ) → Bool
+has_texts [] = false
+has_texts texts = true
+
 -- no source gave anything
 abbrev pub no_origins : Origins
 no_origins = record { labels = []; cells = []; texts = [] }

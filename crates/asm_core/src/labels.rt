@@ -4,7 +4,7 @@ ghost use Rattle.std.specs.Prelude.{◌≡◌, ◌≤◌, ◌<◌, ◌+◌, ◌+
 ghost use Rattle.asm_lex.specs.declared.shape.Isa.{Isa};
 ghost use Rattle.asm_core.specs.Made.{IsAssembly};
 ghost use Rattle.asm_core.specs.Sources.{source_lines};
-ghost use Rattle.asm_core.specs.Labels.{AreFound, Leads, label_line, label_lines, labels_at, labels_of, mark_of, shown_label, shown_labels};
+ghost use Rattle.asm_core.specs.Labels.{AreFound, Leads, label_below, label_line, label_lines, labels_at, labels_of, mark_of, shown_label, shown_labels};
 
 use crate::assembly::Assembly;
 use crate::layout::LabelValue;
@@ -104,6 +104,21 @@ impl Labels {
             address: 0,
             place: self.list.len(),
         }
+    }
+
+    /// The greatest address of a label at or below an address.
+    pub fn below(&self, address: u16) -> Option<u16>
+        ensures { result ≡ label_below self.now address }
+    {
+        if self.list.is_empty() {
+            return None;
+        }
+        for below in (0..usize::from(address) + 1).rev() {
+            if self.first_at(below as u16) < self.list.len() {
+                return Some(below as u16);
+            }
+        }
+        None
     }
 
     // The place of the first label of an address.

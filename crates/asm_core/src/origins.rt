@@ -6,7 +6,7 @@ ghost use Rattle.machine.specs.Memory.{mapped_address};
 ghost use Rattle.asm_lex.specs.declared.shape.Isa.{Isa};
 ghost use Rattle.asm_core.specs.Made.{IsAssembly, Made};
 ghost use Rattle.asm_lex.specs.Parts.{trimmed};
-ghost use Rattle.asm_core.specs.Origins.{gave, labels_over, line_behind, no_origins, origin_at, origins_of, shown_texts, source_end, told_origins_of};
+ghost use Rattle.asm_core.specs.Origins.{gave, has_texts, labels_over, line_behind, no_origins, origin_at, origins_of, shown_texts, source_end, told_origins_of};
 ghost use Rattle.asm_core.specs.Sources.{source_lines};
 ghost use Rattle.vip_byte.specs.Room.{HasRoom};
 
@@ -80,6 +80,13 @@ impl Origins {
         ensures { result.now ≡ self.now.labels }
     {
         &self.labels
+    }
+
+    /// Whether the texts of its lines are told.
+    pub fn tells_lines(&self) -> bool
+        ensures { result ≡ has_texts self.now.texts }
+    {
+        !self.texts.is_empty()
     }
 
     /// The lines that show the labels of an address, in order, where the source gave it a byte.
