@@ -293,7 +293,7 @@ program_show_once : (known : Known) (memory : Memory) (rom ram : List ℕ) (keys
     → OneEnd (ProgramShowComes known memory rom ram keys limit shown) (ProgramShowComes known memory rom ram keys limit shown)
 program_show_once known memory rom ram keys limit program_show.Trace = program_once memory rom ram keys (program_traced known.origins limit)
 program_show_once known memory rom ram keys limit program_show.Pictures = program_once memory rom ram keys (program_pictured limit)
-program_show_once known memory rom ram keys limit program_show.Profile = program_once memory rom ram keys (program_profiled limit)
+program_show_once known memory rom ram keys limit program_show.Profile = program_once memory rom ram keys (program_profiled known.origins limit)
 program_show_once known memory rom ram keys limit (program_show.Board shown) = board_show_once known (started (memory_in memory) rom ram) keys limit shown
 
 -- ---- which statuses come
@@ -489,7 +489,7 @@ module _ (given : RomsGiven) where
         → Free loaded (ProgramShowComes known memory rom ram keys limit shown)
     program_show_free known memory rom ram keys limit program_show.Trace = program_free memory rom ram keys (program_traced known.origins limit) (λ board bad. absurd (cc))
     program_show_free known memory rom ram keys limit program_show.Pictures = program_free memory rom ram keys (program_pictured limit) (λ board bad. absurd (cc))
-    program_show_free known memory rom ram keys limit program_show.Profile = program_free memory rom ram keys (program_profiled limit) (λ board bad. absurd (cc))
+    program_show_free known memory rom ram keys limit program_show.Profile = program_free memory rom ram keys (program_profiled known.origins limit) (λ board bad. absurd (cc))
     program_show_free known memory rom ram keys limit (program_show.Board shown) = board_show_free known (started (memory_in memory) rom ram) keys limit shown
 
   text_verb_free : (verb : TextVerb) (file : List ℕ) → Free (request.Text verb file) (TextVerbComes verb file)

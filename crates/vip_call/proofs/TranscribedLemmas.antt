@@ -267,7 +267,7 @@ module _ (every : EveryRun) (from : FromAccepted) (time : EveryTime) (time_from 
       transcribed_state known e s fits keys limit few output comes.value comes.gives (saved_file e (events_in e s comes.value limit)) refl comes.here.here
   transcribed_as known e s fits keys limit few (show.Plain plain.Profile) output comes =
       transcribed_run known e s fits keys limit (show.Plain plain.Profile) output _ _
-      (λ script. (profiled_is e (events_in e s script limit) ∙ ap (profile_of e) (all_are e s script limit), refl)) comes
+      (λ script. (profiled_is e known.origins (events_in e s script limit) ∙ ap (profile_of e known.origins) (all_are e s script limit), refl)) comes
   transcribed_as known e s fits keys limit few (show.Plain (plain.Summary number)) output comes =
       transcribed_run known e s fits keys limit (show.Plain (plain.Summary number)) output _ _
       (λ script. (

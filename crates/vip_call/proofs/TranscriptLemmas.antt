@@ -160,8 +160,8 @@ module _ (e : Edition) where
   views_are (Dispatch b ∷ events) = ap (λ views. view_at e b ∷ views) (views_are events)
   views_are (Stopped b ∷ events) = views_are events
 
-  pub profiled_is : (events : List Event) → profile_pieces e events ≡ profile_of e (points_of e events)
-  profiled_is events = ap (λ views. profile_text views ∷ []) (views_are events)
+  pub profiled_is : (origins : Origins) (events : List Event) → profile_pieces origins e events ≡ profile_of e origins (points_of e events)
+  profiled_is origins events = ap (λ views. profile_text origins views ∷ []) (views_are events)
 
   -- ---- the counts
 

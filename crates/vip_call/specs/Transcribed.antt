@@ -112,7 +112,7 @@ module _ (e : Edition) (s : Start) (points : List Point) where
   IsShown known limit run ending over reported (Commands text echo columns) pieces =
       Debugged (looks_of known columns) limit ending over reported (commands_of Chip8 known.names echo limit text) pieces
   IsShown known limit run ending over reported (Plain State) pieces = IsStateOf e (last_point all_points) pieces × (reported ≡ ending)
-  IsShown known limit run ending over reported (Plain Profile) pieces = (pieces ≡ profile_of e all_points) × (reported ≡ ending)
+  IsShown known limit run ending over reported (Plain Profile) pieces = (pieces ≡ profile_of e known.origins all_points) × (reported ≡ ending)
   IsShown known limit run ending over reported (Plain (Summary number)) pieces =
       (pieces ≡ summary_text e number (windows_ended over - windows_ended (first_cycle e s)) points (last_point all_points)) × (reported ≡ ending)
 

@@ -116,9 +116,9 @@ module _ (e : Edition) where
   abbrev pub summary_text : ℕ → ℕ → List Point → Option Point → List (List ℕ)
   summary_text number n points last = summary_line number (length points) n (lit last) ∷ []
 
-  -- `profile`: where the time of the points goes, as they are seen
-  abbrev pub profile_of : List Point → List (List ℕ)
-  profile_of points = profile_text (map (λ p. view_of e p.state p.cycle) points) ∷ []
+  -- `profile`: where the time of the points goes, as they are seen, by what a source gave
+  abbrev pub profile_of : Origins → List Point → List (List ℕ)
+  profile_of origins points = profile_text origins (map (λ p. view_of e p.state p.cycle) points) ∷ []
 
   -- `play`: the pictures that a run shows, in order
   abbrev pub ShowsPictures : List Shown → List (List ℕ) → Type 0

@@ -6,7 +6,7 @@ use Rattle.std.proofs.lemmas.Bool.{cases_eq, eq-eqb, ne_eqb}
 use Rattle.std.proofs.lemmas.List.{map-append}
 use Rattle.std.proofs.lemmas.List.Elements.{filter-append}
 use Rattle.std.proofs.lemmas.List.Folds.{find-append}
-use Rattle.machine.specs.Board.{Machine, Case, byte_of, case_of, move}
+use Rattle.machine.specs.Board.{Machine, Case, case_of, move}
 use Rattle.machine.specs.Board.Case.{Dma, Interrupt, Idle, Instruction}
 use Rattle.machine.specs.Run.{states}
 use Rattle.machine.proofs.Runs.{later-move}
@@ -15,21 +15,23 @@ use Rattle.vip_board.specs.Moves.{moved as moved_step, moved_by}
 use Rattle.vip_board.specs.Seen.{Seen, held_by}
 use Rattle.vip_byte.specs.Number.{most_cycles}
 use Rattle.vip_cpu.specs.declared.cpu.Phase.TheVariants.{Boundary}
-use Rattle.vip_outside.specs.Sink.{SinkMeaning, PutsWhole, PutFails}
+use Rattle.asm_core.specs.Origins.{Origins}
+use Rattle.vip_outside.specs.Sink.{SinkMeaning, PutAnswers}
 use Rattle.vip_outside.specs.Pieces.{PutsAll, FailsWithin}
 use Rattle.vip_outside.specs.declared.sink.Failed.{Failed}
 use Rattle.vip_outside.proofs.PiecesLemmas.{PutsAll-nil, PutsAll-one, FailsWithin-snoc}
 use Rattle.vip_program.specs.declared.counts.Counts.{Counts}
 use Rattle.vip_program.specs.declared.counts.Point.{Point}
+use Rattle.vip_program.specs.declared.instructions.Fetched.{Fetched}
 use Rattle.vip_program.specs.declared.instructions.Instructions.{Instructions}
 use Rattle.vip_program.specs.declared.instructions.ProgramProfile.{ProgramProfile}
 use Rattle.vip_program.specs.declared.trace.ProgramEnd.{ProgramEnd}
 use Rattle.vip_program.specs.Counts.{addresses, Awaits, Counted, HasValues, IsCount}
-use Rattle.vip_program.specs.Instructions.{AreFirst, Profiles, code_in, first_at, instructions, is_instruction, pc_of, point_at, points_of, program_profile, title}
-use Rattle.vip_program.specs.Lines.{three_at}
+use Rattle.vip_program.specs.Instructions.{AreFirst, Profiles, code_shown, fetched_at, first_at, instructions, is_instruction, pc_of, point_at, points_of, program_profile, title}
 use Rattle.vip_program.specs.Moves.{goes_on, machine_after}
 use Rattle.vip_program.specs.Pictures.{made}
 use Rattle.vip_program.specs.Profile.{Code, last_cycle, profile_text}
+use Rattle.vip_program.specs.Sums.{IsShown}
 use Rattle.vip_program.specs.Trace.{ShowAnswers, ShowsProgram, end_at, last_machine, moves_to}
 use Rattle.vip_program.proofs.Counting.{last_cycle-more, table-first, table-set}
 use Rattle.vip_program.proofs.Runs.{machine-by, move-within, moves-go, moves-rest, rom-by}
@@ -64,18 +66,18 @@ module _ (run : List Machine) (b : Machine) where
     -- what is known of an address is known with more moves, and of no other does a move tell
     found : (pc : ℕ) → case_of b ≡ Instruction
         → first_at rom (run ++ b ∷ []) pc
-        ≡ option_map (λ b. three_at (byte_of rom b) (pc_of b)) (option_or (find (λ b. pc_of b == pc) (instructions run)) (if pc_of b == pc then Some b else None))
+        ≡ option_map (fetched_at rom) (option_or (find (λ b. pc_of b == pc) (instructions run)) (if pc_of b == pc then Some b else None))
     found pc is =
-        ap (λ bs. option_map (λ b. three_at (byte_of rom b) (pc_of b)) (find (λ b. pc_of b == pc) bs)) (instructions-more is)
-        ∙ ap (option_map (λ b. three_at (byte_of rom b) (pc_of b))) (find-append (λ b. pc_of b == pc) (instructions run) (b ∷ []))
+        ap (λ bs. option_map (fetched_at rom) (find (λ b. pc_of b == pc) bs)) (instructions-more is)
+        ∙ ap (option_map (fetched_at rom)) (find-append (λ b. pc_of b == pc) (instructions run) (b ∷ []))
 
-    known : (first : Option Machine) (more : Option Machine) (met : List ℕ) → option_map (λ b. three_at (byte_of rom b) (pc_of b)) first ≡ Some met
-        → option_map (λ b. three_at (byte_of rom b) (pc_of b)) (option_or first more) ≡ option_map (λ b. three_at (byte_of rom b) (pc_of b)) first
+    known : (first : Option Machine) (more : Option Machine) (met : Fetched) → option_map (fetched_at rom) first ≡ Some met
+        → option_map (fetched_at rom) (option_or first more) ≡ option_map (fetched_at rom) first
     known None more met is = cc
     known (Some c) more met is = refl
 
-    unknown : (first : Option Machine) → option_map (λ b. three_at (byte_of rom b) (pc_of b)) first ≡ None
-        → option_map (λ b. three_at (byte_of rom b) (pc_of b)) (option_or first (Some b)) ≡ Some (three_at (byte_of rom b) (pc_of b))
+    unknown : (first : Option Machine) → option_map (fetched_at rom) first ≡ None
+        → option_map (fetched_at rom) (option_or first (Some b)) ≡ Some (fetched_at rom b)
     unknown None is = refl
     unknown (Some c) is = cc
 
@@ -86,18 +88,18 @@ module _ (run : List Machine) (b : Machine) where
     first-there : (pc : ℕ) → case_of b ≡ Instruction → (pc ≡ pc_of b → ⊥) → first_at rom (run ++ b ∷ []) pc ≡ first_at rom run pc
     first-there pc is other =
         found pc is
-        ∙ ap (λ here. option_map (λ b. three_at (byte_of rom b) (pc_of b)) (option_or (find (λ b. pc_of b == pc) (instructions run)) (if here then Some b else None)))
+        ∙ ap (λ here. option_map (fetched_at rom) (option_or (find (λ b. pc_of b == pc) (instructions run)) (if here then Some b else None)))
         (ne_eqb (pc_of b) pc (λ same. other (sym same)))
-        ∙ ap (option_map (λ b. three_at (byte_of rom b) (pc_of b))) (nothing-more (find (λ b. pc_of b == pc) (instructions run)))
+        ∙ ap (option_map (fetched_at rom)) (nothing-more (find (λ b. pc_of b == pc) (instructions run)))
 
-    first-here : case_of b ≡ Instruction → first_at rom run (pc_of b) ≡ None → first_at rom (run ++ b ∷ []) (pc_of b) ≡ Some (three_at (byte_of rom b) (pc_of b))
+    first-here : case_of b ≡ Instruction → first_at rom run (pc_of b) ≡ None → first_at rom (run ++ b ∷ []) (pc_of b) ≡ Some (fetched_at rom b)
     first-here is none =
         found (pc_of b) is
-        ∙ ap (λ here. option_map (λ b. three_at (byte_of rom b) (pc_of b)) (option_or (find (λ c. pc_of c == pc_of b) (instructions run)) (if here then Some b else None)))
+        ∙ ap (λ here. option_map (fetched_at rom) (option_or (find (λ c. pc_of c == pc_of b) (instructions run)) (if here then Some b else None)))
         (eq-eqb (pc_of b) (pc_of b) refl)
         ∙ unknown (find (λ c. pc_of c == pc_of b) (instructions run)) none
 
-    first-kept : case_of b ≡ Instruction → (met : List ℕ) → first_at rom run (pc_of b) ≡ Some met → (pc : ℕ) → first_at rom (run ++ b ∷ []) pc ≡ first_at rom run pc
+    first-kept : case_of b ≡ Instruction → (met : Fetched) → first_at rom run (pc_of b) ≡ Some met → (pc : ℕ) → first_at rom (run ++ b ∷ []) pc ≡ first_at rom run pc
     first-kept is met some pc = go (cases_eq pc (pc_of b))
       where
         go : (pc ≡ pc_of b) ⊎ (pc ≡ pc_of b → ⊥) → first_at rom (run ++ b ∷ []) pc ≡ first_at rom run pc
@@ -110,39 +112,39 @@ module _ (run : List Machine) (b : Machine) where
     -- ---- the tables
 
     -- an instruction is met
-    met-at : (old new : Instructions) (three : List ℕ) → AreFirst old rom run → length old.first.items ≡ addresses → pc_of b < addresses
-        → case_of b ≡ Instruction → three ≡ three_at (byte_of rom b) (pc_of b)
-        → (slice_index_or old.first.items (pc_of b) None ≡ None → new.first.items ≡ slice_set old.first.items (pc_of b) (Some three))
-        → ((met : List ℕ) → slice_index_or old.first.items (pc_of b) None ≡ Some met → new.first.items ≡ old.first.items)
+    met-at : (old new : Instructions) (fetched : Fetched) → AreFirst old rom run → length old.first.items ≡ addresses → pc_of b < addresses
+        → case_of b ≡ Instruction → fetched ≡ fetched_at rom b
+        → (slice_index_or old.first.items (pc_of b) None ≡ None → new.first.items ≡ slice_set old.first.items (pc_of b) (Some fetched))
+        → ((met : Fetched) → slice_index_or old.first.items (pc_of b) None ≡ Some met → new.first.items ≡ old.first.items)
         → AreFirst new rom (run ++ b ∷ [])
-    met-at old new three are size within is same first later = by_first (first_at rom run (pc_of b)) refl
+    met-at old new fetched are size within is same first later = by_first (first_at rom run (pc_of b)) refl
       where
-        by_first : (known : Option (List ℕ)) → first_at rom run (pc_of b) ≡ known → AreFirst new rom (run ++ b ∷ [])
+        by_first : (known : Option Fetched) → first_at rom run (pc_of b) ≡ known → AreFirst new rom (run ++ b ∷ [])
         by_first None none = λ pc other below.
             ap (λ items. slice_index_or items pc other) (first (are (pc_of b) None within ∙ none))
-            ∙ table-set old.first.items (pc_of b) (Some three) (first_at rom run) (first_at rom (run ++ b ∷ [])) size within are
+            ∙ table-set old.first.items (pc_of b) (Some fetched) (first_at rom run) (first_at rom (run ++ b ∷ [])) size within are
             (ap Some same ∙ sym (first-here is none)) (λ pc there. sym (first-there pc is there)) pc other below
         by_first (Some met) some = λ pc other below.
             ap (λ items. slice_index_or items pc other) (later met (are (pc_of b) None within ∙ some))
             ∙ are pc other below ∙ sym (first-kept is met some pc)
 
-    pub first-met : (old new : Instructions) (pc : ℕ) (three : List ℕ) → AreFirst old rom run → length old.first.items ≡ addresses → pc < addresses
-        → case_of b ≡ Instruction → pc ≡ pc_of b → three ≡ three_at (byte_of rom b) (pc_of b)
-        → (slice_index_or old.first.items pc None ≡ None → new.first.items ≡ slice_set old.first.items pc (Some three))
-        → ((met : List ℕ) → slice_index_or old.first.items pc None ≡ Some met → new.first.items ≡ old.first.items)
+    pub first-met : (old new : Instructions) (pc : ℕ) (fetched : Fetched) → AreFirst old rom run → length old.first.items ≡ addresses → pc < addresses
+        → case_of b ≡ Instruction → pc ≡ pc_of b → fetched ≡ fetched_at rom b
+        → (slice_index_or old.first.items pc None ≡ None → new.first.items ≡ slice_set old.first.items pc (Some fetched))
+        → ((met : Fetched) → slice_index_or old.first.items pc None ≡ Some met → new.first.items ≡ old.first.items)
         → AreFirst new rom (run ++ b ∷ [])
-    first-met old new pc three are size within is at same first later =
-        met-at old new three are size (subst (λ k. k < addresses) at within) is same
-        (subst (λ k. slice_index_or old.first.items k None ≡ None → new.first.items ≡ slice_set old.first.items k (Some three)) at first)
-        (subst (λ k. (met : List ℕ) → slice_index_or old.first.items k None ≡ Some met → new.first.items ≡ old.first.items) at later)
+    first-met old new pc fetched are size within is at same first later =
+        met-at old new fetched are size (subst (λ k. k < addresses) at within) is same
+        (subst (λ k. slice_index_or old.first.items k None ≡ None → new.first.items ≡ slice_set old.first.items k (Some fetched)) at first)
+        (subst (λ k. (met : Fetched) → slice_index_or old.first.items k None ≡ Some met → new.first.items ≡ old.first.items) at later)
 
     -- or another move is made
     pub first-same : (met : Instructions) → AreFirst met rom run → (case_of b ≡ Instruction → ⊥) → AreFirst met rom (run ++ b ∷ [])
     first-same met are other = λ pc value below.
-        are pc value below ∙ sym (ap (λ bs. option_map (λ b. three_at (byte_of rom b) (pc_of b)) (find (λ b. pc_of b == pc) bs)) (instructions-kept other))
+        are pc value below ∙ sym (ap (λ bs. option_map (fetched_at rom) (find (λ b. pc_of b == pc) bs)) (instructions-kept other))
 
 -- of no move
-pub first-none : (rom : List ℕ) (items : List (Option (List ℕ))) → items ≡ replicate addresses None → HasValues items (first_at rom [])
+pub first-none : (rom : List ℕ) (items : List (Option Fetched)) → items ≡ replicate addresses None → HasValues items (first_at rom [])
 first-none rom items none = table-first items None (first_at rom []) none (λ pc. refl)
 
 -- ---- a run on its way
@@ -264,28 +266,35 @@ module _ (limit : ℕ) (start : Seen) where
 
 -- ---- what goes out
 
-module _ (start v : Seen) (limit : ℕ) (profile : ProgramProfile) (profiles : Profiles profile start.rom (made start limit)) (text piece : List ℕ)
-    (written :
-    (points : List Point) (code : ℕ → Code) → Counted profile.counts points
-    → ((pc : ℕ) → pc < addresses → code_in pc (slice_index_or profile.instructions.first.items pc None) ≡ code pc) → text ≡ profile_text title code points)
-    (is : piece ≡ text) where
-  text_is : piece ∷ [] ≡ program_profile start limit
-  unfolding program_profile
-  text_is =
-      ap (λ text. text ∷ [])
-      (is ∙ written (points_of (made start limit)) (λ pc. code_in pc (first_at start.rom (made start limit) pc)) profiles.counted
-      (λ pc below. ap (code_in pc) (profiles.first pc None below)))
+module _ (origins : Origins) (start v : Seen) (limit : ℕ) (profile : ProgramProfile) (profiles : Profiles profile start.rom (made start limit))
+    (out out' : SinkMeaning) where
+  -- what a put of the text of what was counted answers
+  abbrev pub PutsProfile : Result (Unit {0}) Failed → Type 0
+  PutsProfile answer =
+      (points : List Point) (code : ℕ → Code) → Counted profile.counts points
+      → IsShown (λ pc. code_shown pc (slice_index_or profile.instructions.first.items pc None)) code
+      → PutAnswers (profile_text title origins code points) out out' answer
 
-  pub profiled : v ≡ moved_by (moves_to start.rom (held_by start) start.machine limit) start → (out out' : SinkMeaning) → PutsWhole piece out out'
-      → (end : ProgramEnd) → end ≡ end_at v.machine → ShowAnswers (program_profile start limit) limit start out out' (Ok end)
-  profiled moved out out' put end ends = record {
-    puts = subst (λ pieces. PutsAll pieces out out') text_is (PutsAll-one piece out out' put);
+  abbrev piece : List ℕ
+  piece = profile_text title origins (λ pc. code_shown pc (first_at start.rom (made start limit) pc)) (points_of (made start limit))
+
+  text_is : piece ∷ [] ≡ program_profile origins start limit
+  unfolding program_profile
+  text_is = refl
+
+  put : (answer : Result (Unit {0}) Failed) → PutsProfile answer → PutAnswers piece out out' answer
+  put answer puts = puts _ _ profiles.counted (λ pc below. ap (code_shown pc) (profiles.first pc None below))
+
+  pub profiled : v ≡ moved_by (moves_to start.rom (held_by start) start.machine limit) start → (done : Unit {0}) → PutsProfile (Ok done)
+      → (end : ProgramEnd) → end ≡ end_at v.machine → ShowAnswers (program_profile origins start limit) limit start out out' (Ok end)
+  profiled moved done puts end ends = record {
+    puts = subst (λ pieces. PutsAll pieces out out') text_is (PutsAll-one piece out out' (put (Ok done) puts));
     ending =
         ends ∙ ap end_at (ap (λ (s : Seen). s.machine) moved ∙ machine-by start (moves_to start.rom (held_by start) start.machine limit));
   }
 
-  pub profile-fails : (r : Result ProgramEnd Failed) (out out' : SinkMeaning) → IsErr r → PutFails piece out out'
-      → ShowAnswers (program_profile start limit) limit start out out' r
-  profile-fails (Ok end) out out' bad fault = cc
-  profile-fails (Err e) out out' bad fault =
-      subst (λ pieces. FailsWithin pieces out out') text_is (FailsWithin-snoc [] piece [] out out out' (PutsAll-nil out) fault)
+  pub profile-fails : (r : Result ProgramEnd Failed) → IsErr r → (e : Failed) → PutsProfile (Err e)
+      → ShowAnswers (program_profile origins start limit) limit start out out' r
+  profile-fails (Ok end) bad e puts = cc
+  profile-fails (Err e') bad e puts =
+      subst (λ pieces. FailsWithin pieces out out') text_is (FailsWithin-snoc [] piece [] out out out' (PutsAll-nil out) (put (Err e) puts))

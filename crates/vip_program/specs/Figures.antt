@@ -23,6 +23,3 @@ pub record IsTold (figures : Figures) : Type 0 where
   pub least : figures.least ≤ most_number
   pub most : figures.most ≤ most_number
 
--- the most bytes of a profile's text: 1,024 before the rows, of 69 each
-abbrev pub text_size : ℕ
-text_size = 1_024 + 69 * 0x10000

@@ -4,13 +4,15 @@ use Rattle.std.specs.Option.{option_map}
 use Rattle.machine.specs.Board.{Machine, Case, byte_of, case_of}
 use Rattle.machine.specs.Board.Case.{Instruction}
 use Rattle.machine.specs.Instruction.{at}
+use Rattle.asm_core.specs.Origins.{Origins}
 use Rattle.vip_board.specs.Seen.{Seen}
 use Rattle.vip_isa.specs.Texts.{instruction_text}
 use Rattle.vip_program.specs.declared.counts.Point.{Point}
+use Rattle.vip_program.specs.declared.instructions.Fetched.{Fetched}
 use Rattle.vip_program.specs.declared.instructions.Instructions.{Instructions}
 use Rattle.vip_program.specs.declared.instructions.ProgramProfile.{ProgramProfile}
 use Rattle.vip_program.specs.Counts.{Counted, HasValues}
-use Rattle.vip_program.specs.Lines.{code_text, three_at}
+use Rattle.vip_program.specs.Lines.{code_in, code_text, three_at}
 use Rattle.vip_program.specs.Pictures.{made}
 use Rattle.vip_program.specs.Profile.{Code, profile_text}
 
@@ -31,22 +33,31 @@ point_at b = record { pc = pc_of b; cycle = b.cycle }
 abbrev pub points_of : List Machine → List Point
 points_of run = map point_at (instructions run)
 
--- the bytes of the first instruction that began at an address, and the two behind its opcode
-abbrev pub first_at : List ℕ → List Machine → ℕ → Option (List ℕ)
-first_at rom run pc = option_map (λ b. three_at (byte_of rom b) (pc_of b)) (find (λ b. pc_of b == pc) (instructions run))
+-- the instruction that begins with a move: its opcode and the two bytes behind it, and whether they are read through the boot latch
+abbrev pub fetched_at : List ℕ → Machine → Fetched
+fetched_at rom b = record { latch = b.latch; three = three_at (byte_of rom b) (pc_of b) }
+
+-- the first instruction that began at an address
+abbrev pub first_at : List ℕ → List Machine → ℕ → Option Fetched
+first_at rom run pc = option_map (fetched_at rom) (find (λ b. pc_of b == pc) (instructions run))
 
 -- a row shows the bytes of an instruction, and the instruction two blanks behind the numbers
-abbrev pub code_in : ℕ → Option (List ℕ) → Code
-code_in pc None = record { bytes = []; words = [] }
-code_in pc (Some three) = record { bytes = code_text three; words = codes "  " ++ instruction_text pc three }
+abbrev pub code_shown : ℕ → Option Fetched → Code
+code_shown pc None = record { text = []; words = []; bytes = []; latch = false }
+code_shown pc (Some fetched) = record {
+  text = code_text fetched.three;
+  words = codes "  " ++ instruction_text pc fetched.three;
+  bytes = code_in fetched.three;
+  latch = fetched.latch;
+}
 
 abbrev pub title : List ℕ
 title = codes "bytes "
 
--- the profile of a run
-unfoldable pub program_profile : Seen → ℕ → List (List ℕ)
-program_profile s limit =
-    profile_text title (λ pc. code_in pc (first_at s.rom (made s limit) pc)) (points_of (made s limit)) ∷ []
+-- the profile of a run, with what a source gave
+unfoldable pub program_profile : Origins → Seen → ℕ → List (List ℕ)
+program_profile origins s limit =
+    profile_text title origins (λ pc. code_shown pc (first_at s.rom (made s limit) pc)) (points_of (made s limit)) ∷ []
 
 -- ---- what is counted
 

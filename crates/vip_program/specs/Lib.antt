@@ -6,6 +6,7 @@ pub mod Trace
 pub mod Moves
 pub mod Pictures
 pub mod Profile
+pub mod Sums
 pub mod Figures
 pub mod Frames
 pub mod Counts

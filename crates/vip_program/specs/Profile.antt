@@ -1,9 +1,12 @@
 -- A profile of a run: where its time goes, by points alone: of a game its dispatch points, of a program the starts of its instructions. Its text is this
 -- project's profile (`docs/FORMATS.md`).
-use Rattle.std.specs.Prelude.{ℕ, ◌+◌, ◌-◌, ◌*◌, ◌/◌, ◌%◌, ◌==◌, ◌&&◌, nat_le, min, max, List, [], ◌∷◌, ◌++◌, Option, None, unwrap_or, length, filter, map, codes, decimal}
-use Rattle.std.specs.List.{flat_map, last_or, range_with_len, reduce, sum}
-use Rattle.std.specs.Option.{option_map_or}
+use Rattle.std.specs.Prelude.{ℕ, ◌+◌, ◌-◌, ◌*◌, ◌/◌, ◌%◌, ◌==◌, ◌&&◌, if◌then◌else◌, nat_eq, nat_le, nat_lt, min, max, Bool, List, [], ◌∷◌, ◌++◌, Option, None, unwrap_or, length, filter, map, take, codes, decimal}
+use Rattle.std.specs.List.{flat_map, last_or, range_with_len, reduce, sum, take_while}
+use Rattle.std.specs.Option.{option_eq, option_map_or}
+use Rattle.machine.specs.Memory.{mapped_address}
 use Rattle.machine.specs.Pictures.{frame}
+use Rattle.asm_core.specs.Labels.{label_below, label_lines}
+use Rattle.asm_core.specs.Origins.{Origins, source_end}
 use Rattle.vip_byte.specs.HexText.{hex4}
 use Rattle.vip_byte.specs.Text.{newline}
 use Rattle.vip_program.specs.Columns.{right}
@@ -99,21 +102,60 @@ frames_line counts = frames_text (length counts) (sum counts) (least counts) (mo
 abbrev pub heading : List ℕ → List ℕ
 heading title = codes "pc   " ++ title ++ codes "      steps     cycles      least       most" ++ newline
 
--- what a row shows of the code at its address: in its column, and in words behind the numbers
+-- what a row shows of the code at its address: in its column, and in words behind the numbers; its bytes, and whether they were read through the boot latch
 pub record Code : Type 0 where
-  pub bytes : List ℕ
+  pub text : List ℕ
   pub words : List ℕ
+  pub bytes : List ℕ
+  pub latch : Bool
 
--- the row of an address, where a step began
-abbrev pub row_text : ℕ → Code → List ℕ → List ℕ
-row_text pc code [] = []
-row_text pc code cycles =
-    hex4 pc ++ codes " " ++ code.bytes
+-- the row of an address, where a step began, which ends in the source's line that gave the bytes, where it is told
+abbrev pub row_text : Origins → ℕ → Code → List ℕ → List ℕ
+row_text origins pc code [] = []
+row_text origins pc code cycles =
+    hex4 pc ++ codes " " ++ code.text
     ++ column (length cycles) ++ column (sum cycles) ++ column (least cycles) ++ column (most cycles)
-    ++ code.words ++ newline
+    ++ code.words ++ source_end origins code.latch pc code.bytes ++ newline
 
-abbrev pub rows_text : (ℕ → Code) → List Point → ℕ → List ℕ
-rows_text code points count = flat_map (λ pc. row_text pc (code pc) (cycles_at points pc)) (range_with_len 0 count)
+-- how many steps there are, and their cycles, behind the name of a label
+abbrev pub sums_text : ℕ → ℕ → List ℕ
+sums_text steps cycles = codes " steps " ++ decimal steps ++ codes " cycles " ++ decimal cycles ++ newline
 
-unfoldable pub profile_text : List ℕ → (ℕ → Code) → List Point → List ℕ
-profile_text title code points = steps_line points ++ frames_line (frame_points points) ++ heading title ++ rows_text code points 0x10000
+-- the line that shows a label, with them at its end
+abbrev pub sum_line : ℕ → ℕ → List ℕ → List ℕ
+sum_line steps cycles line = take (length line - 1) line ++ sums_text steps cycles
+
+-- the rows among some addresses: those at which a step began
+abbrev pub rows : List Point → List ℕ → List ℕ
+rows points addresses = filter (λ pc. nat_lt 0 (length (cycles_at points pc))) addresses
+
+-- the lines of the labels of an address, with the sums of steps of so many cycles
+abbrev pub sum_lines : Origins → Option ℕ → List ℕ → List ℕ
+sum_lines origins label cycles =
+    option_map_or (λ address. flat_map (sum_line (length cycles) (sum cycles)) (label_lines origins.labels address)) label []
+
+module _ (origins : Origins) (code : ℕ → Code) where
+  -- the address of the label to which a row belongs, if to any: the greatest at or below that from which its first byte was read
+  abbrev pub label_of : ℕ → Option ℕ
+  label_of pc = label_below origins.labels (mapped_address (code pc).latch pc)
+
+  abbrev pub belongs : Option ℕ → ℕ → Bool
+  belongs label pc = option_eq nat_eq (label_of pc) label
+
+  module _ (points : List Point) where
+    -- the cycles of all steps of the first rows that belong there, up to the next that belongs elsewhere
+    abbrev pub cycles_under : Option ℕ → List ℕ → List ℕ
+    cycles_under label pcs = flat_map (cycles_at points) (take_while (belongs label) pcs)
+
+    -- what stands before the first of some rows, where the row before it belongs elsewhere: the lines of its label, with the sums of the rows from it on
+    abbrev pub sums_before : Option ℕ → ℕ → List ℕ → List ℕ
+    sums_before before pc pcs = if belongs before pc then [] else sum_lines origins (label_of pc) (cycles_under (label_of pc) (pc ∷ pcs))
+
+    -- rows behind one that belongs there
+    unfoldable pub rows_text : Option ℕ → List ℕ → List ℕ
+    rows_text before [] = []
+    rows_text before (pc ∷ pcs) = sums_before before pc pcs ++ row_text origins pc (code pc) (cycles_at points pc) ++ rows_text (label_of pc) pcs
+
+unfoldable pub profile_text : List ℕ → Origins → (ℕ → Code) → List Point → List ℕ
+profile_text title origins code points =
+    steps_line points ++ frames_line (frame_points points) ++ heading title ++ rows_text origins code points None (rows points (range_with_len 0 0x10000))

@@ -1,55 +1,74 @@
 //! The instructions of a program's run, counted.
 
-ghost use Rattle.std.specs.Prelude.{◌≡◌, ◌≤◌, vec_capacity, vec_len};
-ghost use Rattle.vip_program.specs.Figures.{text_size};
+ghost use Rattle.std.specs.Prelude.{◌≡◌, vec_len};
 
 use crate::counts::{ADDRESSES, Counts, Point};
 use crate::line::{put_code, three_at};
-use crate::profile_text::{Codes, TEXT_SIZE};
+use crate::profile_text::Codes;
+use asm_core::{Origins, size_at};
 use std::alloc::{AllocError, Global};
 use vip_board::Board;
 use vip_byte::{Buffer, put};
 use vip_isa::instruction_text;
 
+/// An instruction: its opcode and the two bytes behind it, and whether they were read through the boot latch.
+#[derive(Clone, Copy)]
+pub struct Fetched {
+    pub latch: bool,
+    pub three: [u8; 3],
+}
+
 /// The instructions of a run, address by address.
 #[derive(Drop)]
 pub struct Instructions {
-    // the opcode of the first that began there, and the two bytes behind it
-    pub(crate) first: Vec<Option<[u8; 3]>>,
+    // the first that began there
+    pub(crate) first: Vec<Option<Fetched>>,
     ghost first_len: { vec_len first ≡ 0x10000 },
 }
 
-/// All the memory that the profile of a program needs: tables by address, and room for the text.
+/// What is counted of the run of a program: tables by address.
 #[derive(Drop)]
 pub struct ProgramProfile {
     pub(crate) counts: Counts,
     pub(crate) instructions: Instructions,
-    pub(crate) text: Vec<u8>,
-    ghost room: { text_size ≤ vec_capacity text },
 }
 
 impl Codes for Instructions {
     ghost use Rattle.std.specs.Prelude.{None, slice_index_or};
-    ghost use Rattle.vip_program.specs.Instructions.{code_in, title};
+    ghost use Rattle.vip_program.specs.Instructions.{code_shown, title};
 
     ghost title = { title };
 
-    ghost code = { λ instructions pc. code_in pc (slice_index_or instructions.first.items pc None) };
+    ghost code = { λ instructions pc. code_shown pc (slice_index_or instructions.first.items pc None) };
+
+    fn latch(&self, pc: u16) -> bool {
+        match self.first[usize::from(pc)] {
+            Some(fetched) => fetched.latch,
+            None => false,
+        }
+    }
 
     fn put_title(&self, into: &mut Buffer) {
         put(into, b"bytes ");
     }
 
-    fn put_bytes(&self, pc: u16, into: &mut Buffer) {
-        if let Some(three) = self.first[usize::from(pc)] {
-            put_code(into, three);
+    fn put_code(&self, pc: u16, into: &mut Buffer) {
+        if let Some(fetched) = self.first[usize::from(pc)] {
+            put_code(into, fetched.three);
         }
     }
 
     fn put_words(&self, pc: u16, into: &mut Buffer) {
-        if let Some(three) = self.first[usize::from(pc)] {
+        if let Some(fetched) = self.first[usize::from(pc)] {
             put(into, b"  ");
-            put(into, instruction_text(pc, three).as_slice());
+            put(into, instruction_text(pc, fetched.three).as_slice());
+        }
+    }
+
+    fn put_end(&self, origins: &Origins, pc: u16, into: &mut Buffer) {
+        if let Some(fetched) = self.first[usize::from(pc)] {
+            let code = &fetched.three[..usize::from(size_at(fetched.three[0]))];
+            origins.put_end(fetched.latch, pc, code, into);
         }
     }
 }
@@ -57,6 +76,7 @@ impl Codes for Instructions {
 impl Instructions {
     ghost use Rattle.std.specs.Prelude.{◌≡◌, ℕ, List, IfOk, [], None, Some, slice_index_or, slice_set};
     ghost use Rattle.vip_program.specs.Instructions.{AreFirst};
+    ghost use Rattle.vip_program.specs.declared.instructions.Fetched.{Fetched};
 
     /// Of no run.
     fn new(alloc: Global) -> Result<Instructions, AllocError>
@@ -74,13 +94,13 @@ impl Instructions {
     }
 
     /// An instruction begins at an address.
-    fn meet(&mut self, pc: u16, three: [u8; 3])
-        ensures first { slice_index_or self.old.first.items pc None ≡ None → self.new.first.items ≡ slice_set self.old.first.items pc (Some three) }
-        ensures later { (met : List ℕ) → slice_index_or self.old.first.items pc None ≡ Some met → self.new.first.items ≡ self.old.first.items }
+    fn meet(&mut self, pc: u16, fetched: Fetched)
+        ensures first { slice_index_or self.old.first.items pc None ≡ None → self.new.first.items ≡ slice_set self.old.first.items pc (Some fetched) }
+        ensures later { (met : Fetched) → slice_index_or self.old.first.items pc None ≡ Some met → self.new.first.items ≡ self.old.first.items }
     {
         let place = usize::from(pc);
         if self.first[place].is_none() {
-            self.first[place] = Some(three);
+            self.first[place] = Some(fetched);
         }
     }
 }
@@ -98,11 +118,9 @@ impl ProgramProfile {
     pub fn new(alloc: Global) -> Result<ProgramProfile, AllocError> {
         let counts = Counts::new(alloc)?;
         let instructions = Instructions::new(alloc)?;
-        let text = Vec::with_capacity(alloc, TEXT_SIZE)?;
         Ok(ProgramProfile {
             counts,
             instructions,
-            text,
         })
     }
 
@@ -123,7 +141,14 @@ impl ProgramProfile {
         if board.next_is_instruction() {
             let cpu = board.cpu();
             let pc = cpu.r(cpu.p());
-            self.instructions.meet(pc, three_at(board.memory(), pc));
+            let memory = board.memory();
+            self.instructions.meet(
+                pc,
+                Fetched {
+                    latch: memory.latch_set(),
+                    three: three_at(memory, pc),
+                },
+            );
             self.counts.meet(Point {
                 pc,
                 cycle: board.now(),

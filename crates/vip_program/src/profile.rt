@@ -11,7 +11,7 @@ ghost use Rattle.vip_program.specs.Trace.{ShowAnswers, moves_to};
 
 use crate::instructions::ProgramProfile;
 use crate::moves::{goes_on, make};
-use crate::profile_text::write_profile;
+use crate::page::Page;
 use crate::trace::{ProgramEnd, ending};
 use vip_board::Board;
 use vip_outside::{Failed, Sink};
@@ -33,20 +33,19 @@ fn count_moves(board: &mut Board, limit: Limit, profile: &mut ProgramProfile)
 }
 
 /// Runs a program up to the limit, or up to where the processor idles with the display off, and puts its profile, as one piece. A put that fails
-/// ends it. It takes no memory but that of `profile`, and what was counted there before is gone.
+/// ends it. It takes no memory but that of `profile` and of the page, and what was there before is gone.
 pub fn show_profile<O: Sink>(
     board: &mut Board,
     limit: Limit,
     profile: &mut ProgramProfile,
+    page: &mut Page,
     out: &mut O,
 ) -> Result<ProgramEnd, Failed>
     requires boundary { board.old.phase ≡ Boundary }
     requires within { board.old.machine.cycle ≤ limit }
-    ensures { ShowAnswers (program_profile board.old limit) limit board.old (O.meaning out.old) (O.meaning out.new) result }
+    ensures { ShowAnswers (program_profile page.old board.old limit) limit board.old (O.meaning out.old) (O.meaning out.new) result }
 {
     count_moves(board, limit, profile);
-    profile.text.clear();
-    write_profile(&profile.counts, &profile.instructions, &mut profile.text);
-    out.put(profile.text.as_slice())?;
+    page.put(&profile.counts, &profile.instructions, out)?;
     Ok(ending(board))
 }

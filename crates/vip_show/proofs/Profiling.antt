@@ -11,7 +11,8 @@ use Rattle.chip8_lang.specs.Events.Event.{Picture, Dispatch, Stopped}
 use Rattle.chip8_lang.specs.View.{View, view_at}
 use Rattle.chip8_image.specs.Interpreters.{interpreter_of}
 use Rattle.machine.specs.Board.{Machine}
-use Rattle.vip_outside.specs.Sink.{SinkMeaning, PutsWhole, PutFails}
+use Rattle.asm_core.specs.Origins.{Origins}
+use Rattle.vip_outside.specs.Sink.{SinkMeaning, PutAnswers}
 use Rattle.vip_outside.specs.Pieces.{PutsAll, FailsWithin}
 use Rattle.vip_outside.specs.declared.sink.Failed.{Failed}
 use Rattle.vip_outside.proofs.PiecesLemmas.{PutsAll-nil, PutsAll-one, FailsWithin-snoc}
@@ -26,6 +27,7 @@ use Rattle.vip_text.specs.declared.ending.RunEnd.TheVariants as run
 use Rattle.vip_show.specs.Answers.{IsFresh, ShowAnswers}
 use Rattle.vip_program.specs.Counts.{addresses, Awaits, Counted}
 use Rattle.vip_program.specs.Profile.{Code, last_cycle, profile_text as text_of}
+use Rattle.vip_program.specs.Sums.{IsShown}
 use Rattle.vip_program.specs.declared.counts.Point.{Point}
 use Rattle.vip_program.proofs.Counting.{last_cycle-more}
 use Rattle.vip_show.specs.declared.opcodes.Profile.{Profile}
@@ -232,28 +234,36 @@ module _ (limit : ℕ) (start v v' : VipState) (profile : Profile) (p : Profilin
 
 -- ---- what goes out
 
-module _ (start : VipState) (limit : ℕ) (profile : Profile) (end : RunEnd) (c : ProfilesRun start limit profile end) (text piece : List ℕ)
-    (written :
-    (points : List Point) (code : ℕ → Code) → Counted profile.counts points
-    → ((pc : ℕ) → pc < addresses → code_of (slice_index_or profile.opcodes.last.items pc None) ≡ code pc) → text ≡ text_of title code points)
-    (is : piece ≡ text) where
+module _ (origins : Origins) (start : VipState) (limit : ℕ) (profile : Profile) (end : RunEnd) (c : ProfilesRun start limit profile end) (out out' : SinkMeaning) where
+  -- what a put of the text of what was counted answers
+  abbrev pub PutsProfile : Result (Unit {0}) Failed → Type 0
+  PutsProfile answer =
+      (points : List Point) (code : ℕ → Code) → Counted profile.counts points
+      → IsShown (λ pc. code_of (slice_index_or profile.opcodes.last.items pc None)) code
+      → PutAnswers (text_of title origins code points) out out' answer
+
   abbrev views : List View
   views = views_of start.edition (events_to start limit)
 
-  text_is : piece ≡ profile_text (views_of start.edition (events_to start limit))
-  unfolding profile_text
-  text_is =
-      is ∙ written (met_points views) (λ pc. code_of (opcode_at views pc)) c.profiles.counted (λ pc below. ap code_of (c.profiles.last pc None below))
+  abbrev piece : List ℕ
+  piece = text_of title origins (λ pc. code_of (opcode_at views pc)) (met_points views)
 
-  pub profile-whole : (out out' : SinkMeaning) → PutsWhole piece out out'
-      → ShowAnswers start limit (profile_pieces start.edition (events_to start limit)) out out' (Ok end)
-  profile-whole out out' put = record {
-    puts = subst (λ text. PutsAll (text ∷ []) out out') text_is (PutsAll-one piece out out' put);
+  text_is : piece ≡ profile_text origins (views_of start.edition (events_to start limit))
+  unfolding profile_text
+  text_is = refl
+
+  put : (answer : Result (Unit {0}) Failed) → PutsProfile answer → PutAnswers piece out out' answer
+  put answer puts = puts _ _ c.profiles.counted (λ pc below. ap code_of (c.profiles.last pc None below))
+
+  pub profile-whole : (done : Unit {0}) → PutsProfile (Ok done)
+      → ShowAnswers start limit (profile_pieces origins start.edition (events_to start limit)) out out' (Ok end)
+  profile-whole done puts = record {
+    puts = subst (λ text. PutsAll (text ∷ []) out out') text_is (PutsAll-one piece out out' (put (Ok done) puts));
     ending = c.ending;
   }
 
-  pub profile-fails : (r : Result RunEnd Failed) (out out' : SinkMeaning) → IsErr r → PutFails piece out out'
-      → ShowAnswers start limit (profile_pieces start.edition (events_to start limit)) out out' r
-  profile-fails (Ok end) out out' bad fault = cc
-  profile-fails (Err e) out out' bad fault =
-      subst (λ text. FailsWithin (text ∷ []) out out') text_is (FailsWithin-snoc [] piece [] out out out' (PutsAll-nil out) fault)
+  pub profile-fails : (r : Result RunEnd Failed) → IsErr r → (e : Failed) → PutsProfile (Err e)
+      → ShowAnswers start limit (profile_pieces origins start.edition (events_to start limit)) out out' r
+  profile-fails (Ok end) bad e puts = cc
+  profile-fails (Err e') bad e puts =
+      subst (λ text. FailsWithin (text ∷ []) out out') text_is (FailsWithin-snoc [] piece [] out out out' (PutsAll-nil out) (put (Err e) puts))

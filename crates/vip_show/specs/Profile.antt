@@ -1,6 +1,7 @@
 -- The profile of a run: its points are the dispatch points, and a row shows the opcode.
-use Rattle.std.specs.Prelude.{◌≡◌, ℕ, ◌==◌, List, [], ◌∷◌, Option, None, filter, filter_map, map, codes}
+use Rattle.std.specs.Prelude.{◌≡◌, ℕ, ◌==◌, false, List, [], ◌∷◌, Option, None, filter, filter_map, map, codes}
 use Rattle.std.specs.List.{last_or}
+use Rattle.asm_core.specs.Origins.{Origins}
 use Rattle.chip8_lang.specs.declared.view.Edition.{Edition}
 use Rattle.chip8_lang.specs.Events.{Event}
 use Rattle.chip8_lang.specs.View.{View, view_at}
@@ -14,7 +15,7 @@ use Rattle.vip_show.specs.declared.opcodes.Opcodes.{Opcodes}
 use Rattle.vip_show.specs.declared.opcodes.Profile.{Profile}
 use Rattle.vip_show.specs.Endings.{ending_of}
 use Rattle.vip_text.specs.Endings.{ending_in}
-use Rattle.vip_text.specs.Traces.{opcode_text}
+use Rattle.vip_text.specs.Traces.{opcode_bytes, opcode_text}
 use Rattle.vip_text.specs.declared.ending.RunEnd.{RunEnd}
 
 -- the dispatch points among some events, as they are seen
@@ -33,17 +34,18 @@ opcode_at views pc = opcode_of (last_or None (filter (λ view. view.pc == pc) vi
 
 -- a row shows it, and no words
 abbrev pub code_of : Option ℕ → Code
-code_of opcode = record { bytes = opcode_text opcode; words = [] }
+code_of opcode = record { text = opcode_text opcode; words = []; bytes = opcode_bytes opcode; latch = false }
 
 abbrev pub title : List ℕ
 title = codes "code"
 
-unfoldable pub profile_text : List View → List ℕ
-profile_text views = text_of title (λ pc. code_of (opcode_at views pc)) (met_points views)
+-- with what a source gave
+unfoldable pub profile_text : Origins → List View → List ℕ
+profile_text origins views = text_of title origins (λ pc. code_of (opcode_at views pc)) (met_points views)
 
 -- all of it is one piece
-abbrev pub profile_pieces : Edition → List Event → List (List ℕ)
-profile_pieces e events = profile_text (views_of e events) ∷ []
+abbrev pub profile_pieces : Origins → Edition → List Event → List (List ℕ)
+profile_pieces origins e events = profile_text origins (views_of e events) ∷ []
 
 -- ---- what is counted
 

@@ -1,12 +1,12 @@
 //! The dispatch points of a run, counted.
 
-ghost use Rattle.std.specs.Prelude.{◌≡◌, ◌≤◌, vec_capacity, vec_len};
-ghost use Rattle.vip_program.specs.Figures.{text_size};
+ghost use Rattle.std.specs.Prelude.{◌≡◌, vec_len};
 
+use asm_core::Origins;
 use chip8_lang::StateView;
 use std::alloc::{AllocError, Global};
 use vip_byte::{Buffer, put};
-use vip_program::{ADDRESSES, Codes, Counts, Point, TEXT_SIZE};
+use vip_program::{ADDRESSES, Codes, Counts, Point};
 use vip_text::opcode_digits;
 
 /// The opcodes of a run, address by address.
@@ -17,13 +17,11 @@ pub struct Opcodes {
     ghost last_len: { vec_len last ≡ 0x10000 },
 }
 
-/// All the memory that the profile of a run needs: tables by address, of any of which the processor may take for a pc, and room for the text.
+/// What is counted of a run: tables by address, of any of which the processor may take for a pc.
 #[derive(Drop)]
 pub struct Profile {
     pub(crate) counts: Counts,
     pub(crate) opcodes: Opcodes,
-    pub(crate) text: Vec<u8>,
-    ghost room: { text_size ≤ vec_capacity text },
 }
 
 impl Codes for Opcodes {
@@ -34,15 +32,25 @@ impl Codes for Opcodes {
 
     ghost code = { λ opcodes pc. code_of (slice_index_or opcodes.last.items pc None) };
 
+    fn latch(&self, _pc: u16) -> bool {
+        false
+    }
+
     fn put_title(&self, into: &mut Buffer) {
         put(into, b"code");
     }
 
-    fn put_bytes(&self, pc: u16, into: &mut Buffer) {
+    fn put_code(&self, pc: u16, into: &mut Buffer) {
         put(into, &opcode_digits(self.last[usize::from(pc)]));
     }
 
     fn put_words(&self, _pc: u16, _into: &mut Buffer) {}
+
+    fn put_end(&self, origins: &Origins, pc: u16, into: &mut Buffer) {
+        if let Some(opcode) = self.last[usize::from(pc)] {
+            origins.put_end(false, pc, &opcode.to_be_bytes(), into);
+        }
+    }
 }
 
 impl Opcodes {
@@ -85,12 +93,7 @@ impl Profile {
     pub fn new(alloc: Global) -> Result<Profile, AllocError> {
         let counts = Counts::new(alloc)?;
         let opcodes = Opcodes::new(alloc)?;
-        let text = Vec::with_capacity(alloc, TEXT_SIZE)?;
-        Ok(Profile {
-            counts,
-            opcodes,
-            text,
-        })
+        Ok(Profile { counts, opcodes })
     }
 
     /// Begins anew, of no dispatch point.

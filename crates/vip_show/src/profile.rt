@@ -8,7 +8,7 @@ ghost use Rattle.vip_show.specs.Profile.{Profiles, ProfilesRun, profile_pieces, 
 
 use crate::opcodes::Profile;
 use vip_outside::{Failed, Sink};
-use vip_program::write_profile;
+use vip_program::Page;
 use vip_relation::{Met, Run, view_of};
 use vip_text::{Limit, RunEnd};
 
@@ -42,20 +42,19 @@ fn count_points(run: &mut Run, limit: Limit, profile: &mut Profile) -> RunEnd
     }
 }
 
-/// Runs a machine that begins, and puts its profile, as one piece. A put that fails ends it. It takes no memory but that of `profile`, and what was
-/// counted there before is gone.
+/// Runs a machine that begins, and puts its profile, as one piece. A put that fails ends it. It takes no memory but that of `profile` and of the page,
+/// and what was there before is gone.
 pub fn show_profile<O: Sink>(
     run: &mut Run,
     limit: Limit,
     profile: &mut Profile,
+    page: &mut Page,
     out: &mut O,
 ) -> Result<RunEnd, Failed>
     requires fresh { IsFresh run.old }
-    ensures { ShowAnswers run.old limit (profile_pieces run.old.edition (events_to run.old limit)) (O.meaning out.old) (O.meaning out.new) result }
+    ensures { ShowAnswers run.old limit (profile_pieces page.old run.old.edition (events_to run.old limit)) (O.meaning out.old) (O.meaning out.new) result }
 {
     let end = count_points(run, limit, profile);
-    profile.text.clear();
-    write_profile(&profile.counts, &profile.opcodes, &mut profile.text);
-    out.put(profile.text.as_slice())?;
+    page.put(&profile.counts, &profile.opcodes, out)?;
     Ok(end)
 }

@@ -105,7 +105,7 @@ module _ (memory : Memory) (rom ram : List ℕ) (keys : Option (List ℕ)) where
       comes-as : (asked : ProgramShow (List ℕ)) → IsProgramShow known limit asked ready → (o : Outcome) → Comes o → ProgramShowComes known memory rom ram keys limit asked o
       comes-as show.Trace is o come = rw (is.2, is.1) at come
       comes-as show.Pictures is o come = rw is at come
-      comes-as show.Profile is o come = rw is.1 at come
+      comes-as show.Profile is o come = rw (is.3, is.2) at come
       comes-as (show.Board shown) is o come = board-comes-as (started (memory_in memory) rom ram) keys known limit is.0 shown is.1 o (rw is.2 at come)
 
       pub program-comes : (asked : ProgramShow (List ℕ)) → IsProgramShow known limit asked ready → (board : Seen) → BoardComes memory rom ram keys (Given board)

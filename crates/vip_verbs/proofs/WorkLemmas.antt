@@ -133,7 +133,7 @@ module _ (e : Edition) (s : Start) (keys : Option (List ℕ)) (known : Known) (l
     comes-as (show.Plain (plain.Trace columns)) is o come = rw (is.2, is.1) at come
     comes-as (show.Plain plain.Pictures) is o come = rw is at come
     comes-as (show.Plain plain.State) is o come = rw is at come
-    comes-as (show.Plain plain.Profile) is o come = rw is.1 at come
+    comes-as (show.Plain plain.Profile) is o come = rw (is.3, is.2) at come
     comes-as (show.Plain (plain.Summary number)) is o come = rw is at come
 
     pub run-comes : (asked : Show (List ℕ)) → IsShow known limit asked ready → (v : VipState) → BeginComes e s keys (Given v)

@@ -87,7 +87,7 @@ abbrev pub IsPlain : Origins → PlainShow → ReadyShow → Type 0
 IsPlain origins (plain.Trace columns) ready = (told : Origins) × (told ≡ origins) × (ready ≡ shows.Trace columns told)
 IsPlain origins plain.Pictures ready = ready ≡ shows.Pictures
 IsPlain origins plain.State ready = ready ≡ shows.State
-IsPlain origins plain.Profile ready = (memory : Profile) × (ready ≡ shows.Profile memory)
+IsPlain origins plain.Profile ready = (counts : Profile) × (page : Origins) × (page ≡ origins) × (ready ≡ shows.Profile counts page)
 IsPlain origins (plain.Summary number) ready = ready ≡ shows.Summary number
 
 -- what is shown of a run up to a limit is ready: its commands are those that their text says
@@ -125,7 +125,8 @@ BoardShowReady known limit asked (Err refusal) = RefusedBy (BoardCommandsIn know
 abbrev pub IsProgramShow : Known → ℕ → ProgramShow (List ℕ) → ReadyProgramShow → Type 0
 IsProgramShow known limit program.Trace ready = (origins : Origins) × (origins ≡ known.origins) × (ready ≡ programs.Trace origins)
 IsProgramShow known limit program.Pictures ready = ready ≡ programs.Pictures
-IsProgramShow known limit program.Profile ready = (memory : ProgramProfile) × (ready ≡ programs.Profile memory)
+IsProgramShow known limit program.Profile ready =
+    (counts : ProgramProfile) × (page : Origins) × (page ≡ known.origins) × (ready ≡ programs.Profile counts page)
 IsProgramShow known limit (program.Board shown) ready = (r : ReadyBoardShow) × IsBoardShow known limit shown r × (ready ≡ programs.Board r)
 
 abbrev pub ProgramCommandsIn : Known → ℕ → ProgramShow (List ℕ) → Judged (List Spoken)

@@ -137,7 +137,7 @@ pieces_of origins (plain.Trace columns) e s script limit =
     )
 pieces_of origins plain.Pictures e s script limit = Some (picture_pieces (interpreter_of e).rom (run_of e s script limit) (events_shown e s script limit))
 pieces_of origins plain.State e s script limit = saved_pieces (saved_file e (events_in e s script limit))
-pieces_of origins plain.Profile e s script limit = Some (profile_pieces e (events_in e s script limit))
+pieces_of origins plain.Profile e s script limit = Some (profile_pieces origins e (events_in e s script limit))
 pieces_of origins (plain.Summary number) e s script limit =
     let shown = events_shown e s script limit in
     Some (

@@ -60,7 +60,7 @@ shown_as (show.Trace columns origins) v limit = ran limit (run_trace origins col
 shown_as show.Pictures v limit = ran limit (run_pictures v limit) (ended_by limit v)
 shown_as (show.Commands commands looks) v limit = debugged_to looks limit (limit_from v.start limit) commands v
 shown_as show.State v limit = ran_with limit (ended_by limit v) (saved_pieces (saved_file v.edition (events_to v limit)))
-shown_as (show.Profile memory) v limit = ran limit (profile_pieces v.edition (events_to v limit)) (ended_by limit v)
+shown_as (show.Profile counts page) v limit = ran limit (profile_pieces page v.edition (events_to v limit)) (ended_by limit v)
 shown_as (show.Summary number) v limit = ran limit (run_summary number v limit) (ended_by limit v)
 
 -- a program's board that is shown so, and a program
@@ -71,7 +71,7 @@ board_shown_as board.State s limit = program_saved limit s
 abbrev pub program_shown_as : ReadyProgramShow → Seen → ℕ → Outcome
 program_shown_as (program.Trace origins) board limit = program_traced origins limit board
 program_shown_as program.Pictures board limit = program_pictured limit board
-program_shown_as (program.Profile memory) board limit = program_profiled limit board
+program_shown_as (program.Profile counts page) board limit = program_profiled page limit board
 program_shown_as (program.Board shown) board limit = board_shown_as shown board limit
 
 -- what a verb that is ready comes to

@@ -74,8 +74,8 @@ program_traced origins limit board = program_ran limit (program_trace origins bo
 abbrev pub program_pictured : ℕ → Seen → Outcome
 program_pictured limit board = program_ran limit (pictured board limit) (ended_at limit board)
 
-abbrev pub program_profiled : ℕ → Seen → Outcome
-program_profiled limit board = program_ran limit (program_profile board limit) (ended_at limit board)
+abbrev pub program_profiled : Origins → ℕ → Seen → Outcome
+program_profiled origins limit board = program_ran limit (program_profile origins board limit) (ended_at limit board)
 
 -- a limit before the cycle at which a board stands is that cycle: no move is made
 abbrev pub limit_at : ℕ → Seen → ℕ
@@ -102,7 +102,7 @@ BoardShowComes known board_by keys limit board.State = RunsOn board_by keys (pro
 abbrev pub ProgramShowComes : Known → AskedMemory → List ℕ → List ℕ → Option (List ℕ) → ℕ → ProgramShow (List ℕ) → Judged Output
 ProgramShowComes known memory rom ram keys limit show.Trace = ProgramComes memory rom ram keys (program_traced known.origins limit)
 ProgramShowComes known memory rom ram keys limit show.Pictures = ProgramComes memory rom ram keys (program_pictured limit)
-ProgramShowComes known memory rom ram keys limit show.Profile = ProgramComes memory rom ram keys (program_profiled limit)
+ProgramShowComes known memory rom ram keys limit show.Profile = ProgramComes memory rom ram keys (program_profiled known.origins limit)
 ProgramShowComes known memory rom ram keys limit (show.Board shown) = BoardShowComes known (started (memory_in memory) rom ram) keys limit shown
 
 -- its bytes are those that its code gives

@@ -22,6 +22,7 @@ use chip8_source::laws::source_gives_rom;
 use std::alloc::{AllocError, Global};
 use vip_debug::Looks;
 use vip_keypad::Script;
+use vip_program::Page;
 use vip_relation::{ResumeFault, Run, StartFault};
 use vip_show::Profile;
 use vip_text::Limit;
@@ -133,7 +134,10 @@ fn make_plain(
         PlainShow::Trace(columns) => Ok(ReadyShow::Trace { columns, origins }),
         PlainShow::Pictures => Ok(ReadyShow::Pictures),
         PlainShow::State => Ok(ReadyShow::State),
-        PlainShow::Profile => Ok(ReadyShow::Profile(Profile::new(alloc)?)),
+        PlainShow::Profile => Ok(ReadyShow::Profile {
+            counts: Profile::new(alloc)?,
+            page: Page::new(alloc, origins)?,
+        }),
         PlainShow::Summary(number) => Ok(ReadyShow::Summary(number)),
     }
 }

@@ -11,7 +11,7 @@ use vip_board::Board;
 use vip_debug::Looks;
 use vip_link::Link;
 use vip_outside::Sink;
-use vip_program::ProgramProfile;
+use vip_program::{Page, ProgramProfile};
 use vip_relation::Run;
 use vip_show::Profile;
 use vip_text::{Limit, TraceColumns};
@@ -67,7 +67,7 @@ pub enum ReadyShow {
     /// The last dispatch point, as a state file.
     State,
     /// Where its time goes, by its dispatch points, with the memory for it.
-    Profile(Profile),
+    Profile { counts: Profile, page: Page },
     /// One line that counts a demonstration game of this number.
     Summary(u32),
 }
@@ -80,7 +80,10 @@ pub enum ReadyProgramShow {
     /// Each finished picture.
     Pictures,
     /// Where its time goes, by its instructions, with the memory for it.
-    Profile(ProgramProfile),
+    Profile {
+        counts: ProgramProfile,
+        page: Page,
+    },
     /// What needs the board alone.
     Board(ReadyBoardShow),
 }

@@ -21,8 +21,8 @@ use vip_board::Board;
 use vip_debug::{run_program_commands, run_program_to};
 use vip_outside::{Failed, Sink};
 use vip_program::{
-    Memory, ProgramEnd, ProgramProfile, resume_program, show_pictures, show_profile, show_trace,
-    start_program,
+    Memory, Page, ProgramEnd, ProgramProfile, resume_program, show_pictures, show_profile,
+    show_trace, start_program,
 };
 use vip_show::put_program_state;
 use vip_text::{Limit, RunEnd};
@@ -109,7 +109,10 @@ fn make_ready<'a>(
     match show {
         ProgramShow::Trace => Ok(ReadyProgramShow::Trace(marks.origins)),
         ProgramShow::Pictures => Ok(ReadyProgramShow::Pictures),
-        ProgramShow::Profile => Ok(ReadyProgramShow::Profile(ProgramProfile::new(alloc)?)),
+        ProgramShow::Profile => Ok(ReadyProgramShow::Profile {
+            counts: ProgramProfile::new(alloc)?,
+            page: Page::new(alloc, marks.origins)?,
+        }),
         ProgramShow::Board(show) => {
             let show = make_board_ready(alloc, marks, show, limit)?;
             Ok(ReadyProgramShow::Board(show))
@@ -218,9 +221,13 @@ pub(crate) fn perform_program<O: Sink>(
             program_ran(limit, show_trace(board, &origins, limit, out))
         }
         ReadyProgramShow::Pictures => program_ran(limit, show_pictures(board, limit, out)),
-        ReadyProgramShow::Profile(mut profile) => {
-            program_ran(limit, show_profile(board, limit, &mut profile, out))
-        }
+        ReadyProgramShow::Profile {
+            mut counts,
+            mut page,
+        } => program_ran(
+            limit,
+            show_profile(board, limit, &mut counts, &mut page, out),
+        ),
         ReadyProgramShow::Board(show) => perform_board(board, limit, show, out),
     }
 }

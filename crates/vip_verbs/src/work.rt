@@ -79,9 +79,13 @@ pub(crate) fn perform_run<O: Sink>(
         ReadyShow::Pictures => ran(limit, show_pictures(&mut run, limit, out)),
         ReadyShow::Commands { commands, looks } => debug(run, limit, commands, looks, out),
         ReadyShow::State => end_of_saving(limit, show_saved(&mut run, limit, out)),
-        ReadyShow::Profile(mut profile) => {
-            ran(limit, show_profile(&mut run, limit, &mut profile, out))
-        }
+        ReadyShow::Profile {
+            mut counts,
+            mut page,
+        } => ran(
+            limit,
+            show_profile(&mut run, limit, &mut counts, &mut page, out),
+        ),
         ReadyShow::Summary(number) => ran(limit, show_summary(&mut run, limit, number, out)),
     }
 }

@@ -1,4 +1,4 @@
-use Rattle.std.proofs.Common.{◌≡◌, ◌⊎◌, inl, inr, ℕ, ◌+◌, ◌-◌, ◌<◌, ◌≤◌, ◌∙◌, Bool, true, false, refl, sym, ap, ap₂, subst, arith, not, bytes_eq, option_map}
+use Rattle.std.proofs.Common.{◌≡◌, ◌⊎◌, inl, inr, ℕ, ◌+◌, ◌-◌, ◌<◌, ◌≤◌, ◌∙◌, ◌∷◌, [], Bool, true, false, refl, sym, ap, ap₂, subst, arith, not, bytes_eq, option_map}
 use Rattle.std.proofs.lemmas.Bool.{cases_lt}
 use Rattle.vip_byte.specs.declared.number.TheConstants.{MOST_CYCLE}
 use Rattle.vip_board.specs.Seen.{Seen, contents_of, held_by}

@@ -3,8 +3,9 @@ use Rattle.machine.specs.Board.{byte_of, case_of}
 use Rattle.machine.specs.Board.Case.{Instruction}
 use Rattle.machine.specs.Instruction.{at}
 use Rattle.vip_program.specs.Counts.{addresses, Counted}
-use Rattle.vip_program.specs.Instructions.{pc_of, points_of}
+use Rattle.vip_program.specs.Instructions.{fetched_at, pc_of, points_of}
 use Rattle.vip_program.specs.Lines.{three_at}
+use Rattle.vip_program.specs.declared.instructions.Fetched.{Fetched}
 use Rattle.vip_program.proofs.Instructing.{first-met, first-same, points-kept, points-more}
 use Rattle.vip_program.proofs.instructions.ProgramProfile.meet.Goals as goal
 
@@ -14,7 +15,9 @@ returns-then-next_is_instruction c run profiles behind =
     let rom = c.args.board.now.rom in
     let is = c.next_is_instruction.ensures.0 c.if-next_is_instruction.true in
     let pc : c.r-pc.result ≡ pc_of b = (rw c.cpu-cpu.ensures at c.r-pc.ensures.number) ∙ ap (at b.regs) (rw c.cpu-cpu.ensures at c.p.ensures.value) in
-    let three : c.three_at.result ≡ three_at (byte_of rom b) (pc_of b) = (rw c.memory.ensures at c.three_at.ensures) ∙ ap (three_at (byte_of rom b)) pc in
+    let three : c.three_at.result ≡ three_at (byte_of rom b) (pc_of b) = (rw c.memory-memory.ensures at c.three_at.ensures) ∙ ap (three_at (byte_of rom b)) pc in
+    let fetched : Fetched = record { latch = c.latch_set.result; three = c.three_at.result } in
+    let same : fetched ≡ fetched_at rom b = ap₂ (λ latch three. record { latch = latch; three = three }) (rw c.memory-memory.ensures at c.latch_set.ensures) three in
     let within : c.r-pc.result < addresses = omega arith in
     record {
       counted =
@@ -22,8 +25,8 @@ returns-then-next_is_instruction c run profiles behind =
           (ap₂ (λ pc cycle. points_of run ++ record { pc = pc; cycle = cycle } ∷ []) pc c.now.ensures ∙ sym (points-more run b is))
           (c.meet-then-next_is_instruction.ensures (points_of run) profiles.counted (omega (arith, behind, c.now.ensures)));
       first =
-          first-met run b rom c.args.self.now.instructions c.meet.new.self c.r-pc.result c.three_at.result profiles.first
-          (sym c.args.self.now.instructions.first.ok.0 ∙ c.args.self.now.instructions.first_len) within is pc three c.meet.ensures.first c.meet.ensures.later;
+          first-met run b rom c.args.self.now.instructions c.meet.new.self c.r-pc.result fetched profiles.first
+          (sym c.args.self.now.instructions.first.ok.0 ∙ c.args.self.now.instructions.first_len) within is pc same c.meet.ensures.first c.meet.ensures.later;
     }
 
 pub returns-else-next_is_instruction : goal.returns-else-next_is_instruction
