@@ -60,11 +60,22 @@ impl Origins {
         let labels = Labels::of(alloc, text, &made)?;
         let (names, cells) = made.into_parts();
         let texts = Vec::new(alloc);
-        Ok((names, Origins { labels, cells, texts }))
+        Ok((
+            names,
+            Origins {
+                labels,
+                cells,
+                texts,
+            },
+        ))
     }
 
     /// The same with the texts of the source's lines.
-    pub fn told(alloc: Global, text: &[u8], made: Assembly) -> Result<(Symbols, Origins), AllocError>
+    pub fn told(
+        alloc: Global,
+        text: &[u8],
+        made: Assembly,
+    ) -> Result<(Symbols, Origins), AllocError>
         requires { (isa : Isa) × IsAssembly isa (source_lines text.now) made }
         ensures names { IfOk result (λ known. known.0 ≡ made.names) }
         ensures origins { (isa : Isa) → IsAssembly isa (source_lines text.now) made → IfOk result (λ known. known.1 ≡ told_origins_of isa (source_lines text.now)) }
@@ -72,7 +83,14 @@ impl Origins {
         let labels = Labels::of(alloc, text, &made)?;
         let texts = texts_of(alloc, text)?;
         let (names, cells) = made.into_parts();
-        Ok((names, Origins { labels, cells, texts }))
+        Ok((
+            names,
+            Origins {
+                labels,
+                cells,
+                texts,
+            },
+        ))
     }
 
     /// All labels of the source.
@@ -116,9 +134,7 @@ impl Origins {
         match bytes {
             [] => true,
             [byte, more @ ..] => match self.at(read_place(latch, address)) {
-                Some(cell) => {
-                    cell.byte == *byte && self.gave(latch, add16(address, 1), more)
-                }
+                Some(cell) => { cell.byte == *byte && self.gave(latch, add16(address, 1), more) }
                 None => false,
             },
         }

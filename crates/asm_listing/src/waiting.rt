@@ -176,11 +176,7 @@ pub(crate) fn append_waiting(
     ensures { OnOk result (report.new.items ≡ report.old.items ++ waiting_line isa faulty name.now (source_lines text.now)) }
 {
     if faulty {
-        append_count(
-            report,
-            name,
-            waiting_count(isa, given, fixed, text, told),
-        )
+        append_count(report, name, waiting_count(isa, given, fixed, text, told))
     } else {
         Ok(())
     }

@@ -203,7 +203,6 @@ pub label-room : (labels : List (ℕ × List ℕ)) (most : ℕ) → AreWithin la
 label-room labels most within None fits = omega arith
 label-room labels most within (Some address) fits = within address fits
 
-
 pub lines_room-cons : (line : List ℕ) (lines : List (List ℕ)) → lines_room (line ∷ lines) ≡ length line + 96 + lines_room lines
 lines_room-cons line lines = sum_by-cons (λ x. x) (length line + 96) (map (λ line. length line + 96) lines)
 

@@ -22,4 +22,3 @@ pub record IsTold (figures : Figures) : Type 0 where
   pub sum : figures.sum ≤ most_number
   pub least : figures.least ≤ most_number
   pub most : figures.most ≤ most_number
-

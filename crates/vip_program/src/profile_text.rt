@@ -245,7 +245,12 @@ fn append_row<C: Codes>(
 }
 
 /// Writes the text of a profile into an empty one with room for the longest.
-pub(crate) fn write_text<C: Codes>(counts: &Counts, codes: &C, origins: &Origins, text: &mut Vec<u8>)
+pub(crate) fn write_text<C: Codes>(
+    counts: &Counts,
+    codes: &C,
+    origins: &Origins,
+    text: &mut Vec<u8>,
+)
     requires empty { text.old.items ≡ [] }
     requires room { (most : ℕ) × IsRoomy origins.now most (vec_capacity text.old) }
     requires count { IsCount counts.now }

@@ -160,13 +160,16 @@ module _ (rom : List ℕ) (b : Machine) (fits : FitsMachine b) (fits_rom : FitsR
 
   pub goes-on : IsProgram f × ((script : List Event) → resumed f script
       ≡ record { machine = b; phase = Boundary; pictures = nothing_before b.cycle; rom = rom; script = script })
-  goes-on = (accepted, λ script i. record {
-    machine = machine_is i;
-    phase = Boundary;
-    pictures = nothing_before (machine_is i).cycle;
-    rom = rom_is i;
-    script = script;
-  })
+  goes-on = (
+    accepted,
+    λ script i. record {
+      machine = machine_is i;
+      phase = Boundary;
+      pictures = nothing_before (machine_is i).cycle;
+      rom = rom_is i;
+      script = script;
+    },
+  )
 
 pub program-goes-on : (rom : List ℕ) (b : Machine) → ProgramGoesOn rom b
 program-goes-on rom b fits fits_rom low = goes-on rom b fits fits_rom low

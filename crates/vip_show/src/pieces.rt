@@ -42,7 +42,13 @@ pub fn show_trace<O: Sink>(
     requires fresh { IsFresh run.old }
     ensures { ShowAnswers run.old limit (run_trace origins.now columns run.old limit) (O.meaning out.old) (O.meaning out.new) result }
 {
-    let tally = put_events(run, limit, Shown::Lines(columns, origins), columns.screen, out)?;
+    let tally = put_events(
+        run,
+        limit,
+        Shown::Lines(columns, origins),
+        columns.screen,
+        out,
+    )?;
     if columns.screen {
         put_screen(run, tally.screen.as_slice(), out)?;
     }

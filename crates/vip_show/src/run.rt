@@ -73,7 +73,9 @@ fn put_event<O: Sink>(
     ensures { PieceAnswers (event_piece (told_of shown.entry) met.now run.now) (O.meaning out.old) (O.meaning out.new) result }
 {
     match (shown, met) {
-        (Shown::Lines(columns, origins), Met::Dispatch) => put_line(run, columns, origins, text, out),
+        (Shown::Lines(columns, origins), Met::Dispatch) => put_line(
+            run, columns, origins, text, out,
+        ),
         (Shown::Pictures, Met::Picture) => put_picture(run, text, out),
         _ => Ok(()),
     }

@@ -19,8 +19,11 @@ const SWITCHES: usize = 5;
 
 /// What each switch counts in its byte where it is on: the boot latch, the display, interrupts, and the processor that idles.
 pub const LATCH: u8 = 1;
+
 pub const DISPLAY: u8 = 2;
+
 pub const INTERRUPTS: u8 = 4;
+
 pub const IDLE: u8 = 8;
 
 /// Accepts a file, or refuses it for its first fault, in the order of `StateFault`.
@@ -47,7 +50,11 @@ fn has_head(bytes: &[u8]) -> bool
     requires { length bytes.now ≡ program_size }
     ensures { IsTrue result ↔ (take 5 bytes.now ≡ program_head) }
 {
-    bytes[0] == 0x56 && bytes[1] == 0x49 && bytes[2] == 0x50 && bytes[3] == 0x53 && bytes[4] == FORMAT
+    bytes[0] == 0x56
+        && bytes[1] == 0x49
+        && bytes[2] == 0x50
+        && bytes[3] == 0x53
+        && bytes[4] == FORMAT
 }
 
 /// Whether the flags and the key are such.

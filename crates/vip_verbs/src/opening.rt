@@ -123,11 +123,7 @@ fn begin<'a>(alloc: Global, beginning: Beginning, keys: Option<Vec<u8>>) -> Resu
 }
 
 /// What is shown of a run without the debugger, by what a source gave, with its memory taken.
-fn make_plain(
-    alloc: Global,
-    origins: Origins,
-    shown: PlainShow,
-) -> Result<ReadyShow, AllocError>
+fn make_plain(alloc: Global, origins: Origins, shown: PlainShow) -> Result<ReadyShow, AllocError>
     ensures { IfOk result (λ ready. IsPlain origins shown ready) }
 {
     match shown {

@@ -63,11 +63,17 @@ pub enum ReadyShow {
     /// Each finished picture.
     Pictures,
     /// The answers to these commands of the debugger, which are shown so.
-    Commands { commands: Commands, looks: Looks },
+    Commands {
+        commands: Commands,
+        looks: Looks,
+    },
     /// The last dispatch point, as a state file.
     State,
     /// Where its time goes, by its dispatch points, with the memory for it.
-    Profile { counts: Profile, page: Page },
+    Profile {
+        counts: Profile,
+        page: Page,
+    },
     /// One line that counts a demonstration game of this number.
     Summary(u32),
 }
@@ -80,10 +86,7 @@ pub enum ReadyProgramShow {
     /// Each finished picture.
     Pictures,
     /// Where its time goes, by its instructions, with the memory for it.
-    Profile {
-        counts: ProgramProfile,
-        page: Page,
-    },
+    Profile { counts: ProgramProfile, page: Page },
     /// What needs the board alone.
     Board(ReadyBoardShow),
 }

@@ -172,11 +172,7 @@ fn limit_at(board: &Board, limit: Limit) -> Limit
 }
 
 /// Runs a program up to a limit, and puts the file of the machine in which it ends.
-fn save_program<O: Sink>(
-    board: &mut Board,
-    limit: Limit,
-    out: &mut O,
-) -> Result<ProgramEnd, Failed>
+fn save_program<O: Sink>(board: &mut Board, limit: Limit, out: &mut O) -> Result<ProgramEnd, Failed>
     requires boundary { board.old.phase ≡ Boundary }
     requires within { board.old.machine.cycle ≤ limit }
     ensures { SaveAnswers limit board.old (O.meaning out.old) (O.meaning out.new) result }

@@ -175,9 +175,8 @@ fn alone<'a>(verb: Verb, given: &Given<'a>) -> Option<Rule<&'a str>>
     ensures { option_map rule_of result ≡ alone verb (seen_given given.now) }
 {
     match verb {
-        Verb::Trace | Verb::Play | Verb::Debug | Verb::Save | Verb::Profile if lacks_source(given) => {
-            Some(Rule::Needs(Flag::Source, Flag::Asm))
-        }
+        Verb::Trace | Verb::Play | Verb::Debug | Verb::Save | Verb::Profile
+            if lacks_source(given) => { Some(Rule::Needs(Flag::Source, Flag::Asm)) }
         _ => None,
     }
 }

@@ -496,8 +496,13 @@ pub(crate) fn lacks_source(given: &Given) -> bool
 }
 
 /// The flags that speak of a game, or of a source.
-const GAME_OR_SOURCE_FLAGS: [Flag; 5] =
-    [Flag::Tall, Flag::Screen, Flag::Words, Flag::At, Flag::Asm];
+const GAME_OR_SOURCE_FLAGS: [Flag; 5] = [
+    Flag::Tall,
+    Flag::Screen,
+    Flag::Words,
+    Flag::At,
+    Flag::Asm,
+];
 
 /// Whether the options are such as a program's saved state can't have: both memories, or an option of a game or of a source.
 fn is_mixed_state(given: &Given) -> bool

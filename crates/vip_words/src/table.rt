@@ -260,16 +260,16 @@ impl Verb {
     {
         match self {
             Verb::Trace => &[
-                "--keys", "--at", "--screen", "--words", "--tall", "--state", "--asm",
-                "--source", "--rom", "--ram",
+                "--keys", "--at", "--screen", "--words", "--tall", "--state", "--asm", "--source",
+                "--rom", "--ram",
             ],
             Verb::Play => &["--keys", "--tall", "--state", "--asm", "--rom", "--ram"],
             Verb::Profile => &[
                 "--keys", "--tall", "--state", "--asm", "--source", "--rom", "--ram",
             ],
             Verb::Debug => &[
-                "--keys", "--words", "--tall", "--state", "--asm", "--source", "--echo",
-                "--rom", "--ram",
+                "--keys", "--words", "--tall", "--state", "--asm", "--source", "--echo", "--rom",
+                "--ram",
             ],
             Verb::Save => &["--keys", "--tall", "--state", "--asm", "--rom", "--ram"],
             Verb::Resume => &["--keys", "--at"],
