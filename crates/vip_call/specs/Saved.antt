@@ -32,7 +32,7 @@ IsJoined (Given first) (Given rest) whole = whole ≡ Shown (first.pieces ++ res
 IsJoined _ _ whole = ⊥
 
 -- what is shown of a run of no source, of which a saved state knows nothing
-abbrev told : PlainShow → Edition → Start → List KeyEvent → ℕ → Outcome
+abbrev pub told : PlainShow → Edition → Start → List KeyEvent → ℕ → Outcome
 told = shown_by no_origins
 
 -- Under a script up to a limit one go of the run from a start is what comes up to the cycle of a file's point, and then what comes of the run from the
