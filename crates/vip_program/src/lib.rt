@@ -6,8 +6,8 @@
 //! script: the lines are exactly those of `specs/Trace.antt`, where the lines of the labels at its opcode stand before that of an instruction,
 //! the pictures those of `specs/Pictures.antt`, the profile that of `specs/Instructions.antt`, each put by a call of its own up to the first put
 //! that fails; and the run ends at its limit, or where the processor idles and no signal can wake it. `Counts` are those of `specs/Counts.antt`
-//! by the points of any run, and `write_profile` their text by `specs/Profile.antt`, with the code that its caller shows. No call takes memory but
-//! the start, and those that make a profile's tables.
+//! by the points of any run, and a `Page` puts their text by `specs/Profile.antt`, with the code that its caller shows and the sums of the rows of each
+//! label of a source. No call takes memory but the start, and those that make a profile's tables and its page.
 //!
 //! The mnemonics are those of RCA's data sheet of the CDP1802, and a picture is a file of Netpbm's PBM, form P4. The form of a line is this
 //! project's (`docs/FORMATS.md`).

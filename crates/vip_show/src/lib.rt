@@ -6,7 +6,7 @@
 //! rule of the language and stands on no law of the ROM. The layer above may rely on this, for every run that begins: the pieces of the output are
 //! exactly those of `specs/Output.antt`, of a profile those of `specs/Profile.antt` and of a state those of `specs/StateOutput.antt`, each put by a
 //! call of its own, up to the first put that fails; and the run ends as its events say. No call takes memory for it: that of a profile is taken by
-//! `Profile::new`.
+//! `Profile::new`, and that of its text by `vip_program::Page::new`.
 //!
 //! A saved state has exactly the bytes of `specs/Written.antt`. What they are to the language is said in `rom_board::saved`: they are an accepted
 //! file that shows the state of the board, and a run from any accepted file, whoever wrote it, goes on as CHIP-8.
