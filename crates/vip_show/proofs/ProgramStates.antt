@@ -113,7 +113,7 @@ module _ (rom : List ℕ) (b : Machine) (fits : FitsMachine b) (fits_rom : FitsR
       × ((switches_of b / 4 % 2 == 1) ≡ b.regs.ie) × ((switches_of b / 8 % 2 == 1) ≡ b.regs.idle)
   s = switched b.latch b.on b.regs.ie b.regs.idle
 
-  abbrev on_is : (weight : ℕ) → switch weight f ≡ (switches_of b / weight % 2 == 1)
+  on_is : (weight : ℕ) → switch weight f ≡ (switches_of b / weight % 2 == 1)
   on_is weight = ap (λ n. n / weight % 2 == 1) (switches-file b rom)
 
   p_of : slice_index p 48 % 16 ≡ b.regs.p
