@@ -1,9 +1,9 @@
 -- Lines with one STEP for all and no BASE, and as one of them is raised.
-use Rattle.std.proofs.Common.{◌≡◌, ℕ, suc, Option, Some, None, ◌+◌, ◌-◌, ◌<◌, ◌≤◌, true, false, List, [], ◌∷◌, length, map, get_or, refl, sym, ap, subst, ◌∙◌, arith}
+use Rattle.std.proofs.Common.{◌≡◌, ℕ, suc, Option, Some, None, ◌+◌, ◌-◌, ◌<◌, ◌≤◌, true, false, List, [], ◌∷◌, ◌++◌, length, map, take, get_or, refl, sym, ap, subst, ◌∙◌, arith}
 use Rattle.std.specs.List.{All, sum_by}
 use Rattle.std.specs.Prelude.{IfSome}
 use Rattle.std.proofs.Math.ListN.{set}
-use Rattle.std.proofs.lemmas.List.{get_or-map, length-map}
+use Rattle.std.proofs.lemmas.List.{get_or-map, length-map, map_more}
 use Rattle.std.proofs.lemmas.List.Elements.{All-map, All-set}
 use Rattle.std.proofs.lemmas.List.Sums.{sum_by-set}
 use Rattle.cycle_check.specs.declared.grammar.Bound.{Bound}
@@ -41,6 +41,12 @@ level_made rom bound lines made = record {
 
 pub level_steps : (lines : List Line) → All (λ (l : Line). l.step ≡ level_step) (map level lines)
 level_steps lines = All-map (λ (l : Line). l.step ≡ level_step) level lines (λ i d within. refl)
+
+-- one more of the lines
+pub one_leveled : (old new lines : List Line) (i : ℕ) (d : Line) → i < length lines → old ≡ map level (take i lines)
+    → new ≡ old ++ level (get_or lines i d) ∷ [] → new ≡ map level (take (i + 1) lines)
+one_leveled old new lines i d within is more =
+    more ∙ ap (λ (items : List Line). items ++ level (get_or lines i d) ∷ []) is ∙ sym (map_more level lines i d within)
 
 -- ---- one line is raised
 

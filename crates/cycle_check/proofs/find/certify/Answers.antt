@@ -4,7 +4,7 @@ use Rattle.cycle_check.proofs.find.certify.Goals as goal
 
 pub returns-in-Some-clause-fault : goal.returns-in-Some-clause-fault
 returns-in-Some-clause-fault c =
-    rw c.obstacle-in-Some.ensures (
+    rw c.obstacle.ensures (
       record {
         lines = c.args.lines.now;
         of_ways = c.requires.made.of_ways;

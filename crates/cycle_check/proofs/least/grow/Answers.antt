@@ -23,7 +23,7 @@ returns-then-line-gt-MOST_STRAIGHT-clause-grown c =
     let here = rw c.as_slice-in-loop-place.ensures.value at c.in-Some.ensures in
     record {
       level = c.loop-place.invariant.1;
-      more = (c.in-Some.place, c.in-Some.line, here.within, here.there c.in-Some.line, refl, c.if-line-gt-MOST_STRAIGHT.true);
+      more = (c.in-Some.place, c.in-Some.line, here.within, here.there c.in-Some.line, (refl, c.if-line-gt-MOST_STRAIGHT.true));
     }
 
 pub raised-base-requires-clause-rising : goal.raised-base-requires-clause-rising
