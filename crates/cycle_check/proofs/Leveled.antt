@@ -1,5 +1,5 @@
 -- Lines with one STEP for all and no BASE, and as one of them is raised.
-use Rattle.std.proofs.Common.{◌≡◌, ℕ, suc, Option, Some, None, ◌+◌, ◌-◌, ◌<◌, ◌≤◌, true, false, List, [], ◌∷◌, ◌++◌, length, map, take, get_or, refl, sym, ap, subst, ◌∙◌, arith}
+use Rattle.std.proofs.Common.{◌≡◌, ℕ, suc, Option, Some, None, ◌+◌, ◌-◌, ◌<◌, ◌≤◌, true, List, [], ◌∷◌, ◌++◌, length, map, take, get_or, refl, sym, ap, subst, ◌∙◌, arith}
 use Rattle.std.specs.List.{All, sum_by}
 use Rattle.std.specs.Prelude.{IfSome}
 use Rattle.std.proofs.Math.ListN.{set}
@@ -15,7 +15,7 @@ use Rattle.cycle_check.specs.Obstacles.{AreReached, HasLowBase, level_step, most
 use Rattle.cycle_check.specs.Reading.{AreRising, AreStrict}
 use Rattle.cycle_check.proofs.Drawing.{found_all}
 use Rattle.cycle_check.proofs.Lookup.{address_of-found}
-use Rattle.cycle_check.proofs.Raised.{none_least, raised_there}
+use Rattle.cycle_check.proofs.Raised.{none_least}
 
 level_bare : (lines : List Line) → map without_costs (map level lines) ≡ map without_costs lines
 level_bare [] = refl

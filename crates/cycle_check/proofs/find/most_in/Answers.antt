@@ -1,5 +1,4 @@
 use Rattle.std.proofs.Common.{arith}
-use Rattle.std.specs.Prelude.{length}
 use Rattle.cycle_check.proofs.Leveled.{low_bases, none_stands}
 use Rattle.cycle_check.proofs.find.most_in.Goals as goal
 
