@@ -4,7 +4,6 @@ use Rattle.std.specs.Prelude.{◌==◌}
 use Rattle.std.proofs.Math.Seq.{take-append_seam}
 use Rattle.std.proofs.lemmas.Nat.{from_be_bytes-to_be_bytes_8}
 use Rattle.std.proofs.lemmas.List.{drop_at}
-use Rattle.machine.specs.Bank.{Bank}
 use Rattle.machine.specs.Bit.{bit}
 use Rattle.machine.specs.Board.{Machine}
 use Rattle.machine.specs.Keys.{Event}
