@@ -49,7 +49,7 @@ untold pc (Some opcode) = refl
 
 pub line-alone : (columns : TraceColumns) (view : View) → trace_line columns view ≡ told_line no_origins columns view
 line-alone columns view =
-    ap (λ record. record ++ newline) (sym (append-nil (record_text columns view)))
+    ap (λ text. text ++ newline) (sym (append-nil (record_text columns view)))
     ∙ ap (λ end. record_text columns view ++ end ++ newline) (sym (untold view.pc view.opcode))
 
 pub adds-line : (view : View) (trace trace' : Sha256) → AddsPiece (Some (trace_line digested_columns view)) trace trace'
