@@ -1,6 +1,6 @@
 //! The debugger's commands on a board that runs any program.
 
-ghost use Rattle.std.specs.Prelude.{◌≡◌, ◌≤◌, ◌++◌, [], Some, true};
+ghost use Rattle.std.specs.Prelude.{◌≡◌, ◌≤◌, ◌++◌, [], option_map, true};
 ghost use Rattle.vip_cpu.specs.declared.cpu.Phase.{Phase};
 ghost use Rattle.vip_outside.specs.Sink.{PutAnswers};
 ghost use Rattle.vip_outside.specs.Pieces.{StreamAnswers};
@@ -58,21 +58,21 @@ impl Target for Program<'_> {
 }
 
 /// Runs a board as a command says, up to the limit and the end of its run. Answers whether the command is completed; what shows it then besides
-/// the board is in `change`.
+/// the board is in `change`, with what a source tells of a move.
 fn run_program(
     board: &mut Board,
-    origins: &Origins,
     running: Running,
     limit: Limit,
+    told: Option<&Origins>,
     change: &mut Change,
 ) -> bool
     requires boundary { board.old.phase ≡ Phase.Boundary }
     requires within { board.old.machine.cycle ≤ limit }
     ensures comes { let r = run_from sleeps board.old in Arrives limit r (came r limit running) board.new result }
-    ensures shown { let r = run_from sleeps board.old in result ≡ true → IsShown (Some origins.now) running r (came r limit running).moves change.new }
+    ensures shown { let r = run_from sleeps board.old in result ≡ true → IsShown (option_map (λ origins. origins.now) told.entry) running r (came r limit running).moves change.new }
 {
     let mut program = Program { board };
-    go(&mut program, running, limit, Some(origins), change)
+    go(&mut program, running, limit, told, change)
 }
 
 /// Runs a board up to a limit, as the debugger's `to` does, and answers whether the processor sleeps there, and behind which IDL. The board is at a
@@ -85,7 +85,7 @@ pub fn run_program_to(board: &mut Board, limit: Limit) -> ProgramEnd
 {
     let mut change = Change::new();
     let running = Running::To(limit.cycles());
-    go(&mut Program { board }, running, limit, None, &mut change);
+    run_program(board, running, limit, None, &mut change);
     ending(board)
 }
 
@@ -158,7 +158,7 @@ fn put_going<O: Sink>(
     ensures { let s = board.old in OneAnswers limit (gone_lines s.rom s.script limit origins.now running) (comes_to s.rom s.script limit running) s board.new (O.meaning out.old) (O.meaning out.new) result }
 {
     let mut change = Change::new();
-    let completed = run_program(board, origins, running, limit, &mut change);
+    let completed = run_program(board, running, limit, Some(origins), &mut change);
     match ending(board) {
         ProgramEnd::Idle(address) => put_idle(address, out),
         ProgramEnd::AtLimit if completed => put_gone(board, origins, running, &change, out),
