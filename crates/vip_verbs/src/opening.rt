@@ -130,10 +130,11 @@ fn make_plain(alloc: Global, origins: Origins, shown: PlainShow) -> Result<Ready
         PlainShow::Trace(columns) => Ok(ReadyShow::Trace { columns, origins }),
         PlainShow::Pictures => Ok(ReadyShow::Pictures),
         PlainShow::State => Ok(ReadyShow::State),
-        PlainShow::Profile => Ok(ReadyShow::Profile {
-            counts: Profile::new(alloc)?,
-            page: Page::new(alloc, origins)?,
-        }),
+        PlainShow::Profile => {
+            let counts = Profile::new(alloc)?;
+            let page = Page::new(alloc, origins)?;
+            Ok(ReadyShow::Profile { counts, page })
+        }
         PlainShow::Summary(number) => Ok(ReadyShow::Summary(number)),
     }
 }

@@ -109,10 +109,11 @@ fn make_ready<'a>(
     match show {
         ProgramShow::Trace => Ok(ReadyProgramShow::Trace(marks.origins)),
         ProgramShow::Pictures => Ok(ReadyProgramShow::Pictures),
-        ProgramShow::Profile => Ok(ReadyProgramShow::Profile {
-            counts: ProgramProfile::new(alloc)?,
-            page: Page::new(alloc, marks.origins)?,
-        }),
+        ProgramShow::Profile => {
+            let counts = ProgramProfile::new(alloc)?;
+            let page = Page::new(alloc, marks.origins)?;
+            Ok(ReadyProgramShow::Profile { counts, page })
+        }
         ProgramShow::Board(show) => {
             let show = make_board_ready(alloc, marks, show, limit)?;
             Ok(ReadyProgramShow::Board(show))
