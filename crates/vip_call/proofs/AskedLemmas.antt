@@ -8,7 +8,7 @@ use Rattle.asm_lex.specs.declared.shape.Isa.{Isa}
 use Rattle.vip_byte.specs.Number.{are_digits, decimal_number, most_cycles, number}
 use Rattle.vip_byte.specs.declared.number.NumFault.{NumFault}
 use Rattle.vip_byte.specs.declared.number.NumFault.TheVariants.{Empty, BadDigit, TooLarge}
-use Rattle.vip_words.specs.Asked.{any_by, asked_behind, asked_by, asked_of_verb, bounds_by, built_in_by, cycles_of, debug_by, demo_by, digest_by, dis_by, either_by, entry_of, file_by, help_by, is_mixed, is_mixed_state, is_program, link_by, moves_of, place_of, play_by, profile_by, program_by, register_of, resume_by, run_by, safe_by, save_by, seed_of, source_by, start_by, timing_by, trace_by, two_registers, version_by, why_of, within_by}
+use Rattle.vip_words.specs.Asked.{any_by, asked_behind, asked_by, asked_of_verb, bounds_by, built_in_by, cycles_of, debug_by, demo_by, digest_by, dis_by, either_by, entry_of, file_by, help_by, is_mixed, is_mixed_state, is_program, lacks_source, link_by, moves_of, place_of, play_by, profile_by, program_by, register_of, resume_by, run_by, safe_by, save_by, seed_of, source_by, start_by, timing_by, trace_by, two_registers, version_by, why_of, within_by}
 use Rattle.vip_words.specs.Request.{Asked}
 use Rattle.vip_words.specs.Rules.{Given, Word, given_by}
 use Rattle.vip_words.specs.Table.{is_alone, is_why, places_of, row, verb_of}
@@ -82,12 +82,14 @@ program_limited file cycles given shown = either (is_mixed given) None _ tt (of_
 
 either_limited : (file cycles : Word) (given : Given) (shown : Show Word) (program : ProgramShow Word) → Limited (either_by file cycles given shown program)
 either_limited file cycles given shown program =
-    either (is_program given) _ _ (program_limited file cycles given program) (run_limited file cycles given shown)
+    either (lacks_source given) None _ tt
+    (either (is_program given) _ _ (program_limited file cycles given program) (run_limited file cycles given shown))
 
 any_limited : (file cycles : Word) (given : Given) (shown : Show Word) (board : BoardShow Word) → Limited (any_by file cycles given shown board)
 any_limited file cycles given shown board =
-    either (is_program given && given.has State) _ _ (either (is_mixed_state given) None _ tt (of_each _ (cycles_of cycles) (λ n. tt)))
-    (either_limited file cycles given shown (Board board))
+    either (lacks_source given) None _ tt
+    (either (is_program given && given.has State) _ _ (either (is_mixed_state given) None _ tt (of_each _ (cycles_of cycles) (λ n. tt)))
+    (either_limited file cycles given shown (Board board)))
 
 trace_limited : (words : List Word) (given : Given) → Limited (trace_by words given)
 trace_limited (file ∷ cycles ∷ []) given = either_limited file cycles given _ _

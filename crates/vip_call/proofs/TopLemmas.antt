@@ -13,7 +13,9 @@ use Rattle.vip_words.specs.Request.{Asked}
 use Rattle.vip_words.specs.Rules.{Word}
 use Rattle.vip_tools.specs.declared.refusal.Misfit.TheVariants as misfit
 use Rattle.vip_call.specs.Words.{Faults, FinishAnswers, OfWords, OpensWords, PerformsAnswer, Reports, performed_status}
+use Rattle.vip_text.specs.ProgramFile.{IsProgram, JudgesProgram}
 use Rattle.vip_text.specs.declared.fault.StateFault.{StateFault}
+use Rattle.vip_text.specs.declared.fault.StateFault.TheVariants.{BadLength, BadHead, BadEdition, BadCycle, BadMachine}
 use Rattle.vip_tools.specs.Files.{Loaded, Needed, files_of, needed, shape_of, HasAll, HasFault, IsRight, ComesTo, IsFaulty, IsLarger, ReadsSome, reads_of, with_reads}
 use Rattle.vip_tools.proofs.FilesLemmas.{reads-all, refused-behind}
 use Rattle.vip_tools.specs.Judged.Verdict.{Given, Refused, GivenUp}
@@ -43,9 +45,18 @@ use Rattle.vip_tools.specs.declared.status.Status.TheVariants.{BadRomSource, Don
 
 -- ---- one reading
 
+-- the file of a program's machine that is accepted has no fault
+program_or_not : (f : List ℕ) (fault : StateFault) → IsProgram f → JudgesProgram f (Err fault) → ⊥
+program_or_not f BadLength a h = h a.size
+program_or_not f BadHead a h = h.1 a.begins
+program_or_not f BadEdition a h = h
+program_or_not f BadCycle a h = omega (arith, a.cycle, h.2)
+program_or_not f BadMachine a h = h.3 a.machine
+
 -- a file that was judged has no fault
 right_or_not : (k : Kind) (content : List ℕ) (fault : StateFault) → IsRight k content → HasFault fault k content → ⊥
 right_or_not kind.State content fault right bad = accepted_or_not right.0 content fault right.1 bad
+right_or_not kind.ProgramState content fault right bad = program_or_not content fault right bad
 right_or_not _ content fault right bad = bad
 
 -- files come to one reading
@@ -543,6 +554,7 @@ module _ (words : List (List ℕ)) (files files' : FilesMeaning) (out err err' :
   refused_with (refusal.TooLarge kind.Game) given report = inl (oversize kind.Game given report)
   refused_with (refusal.TooLarge kind.TallGame) given report = inl (oversize kind.TallGame given report)
   refused_with (refusal.TooLarge kind.State) given report = inl (oversize kind.State given report)
+  refused_with (refusal.TooLarge kind.ProgramState) given report = inl (oversize kind.ProgramState given report)
   refused_with (refusal.TooLarge kind) given report = oversize kind given report
   refused_with (refusal.Source line cause) given report = inr (rejected (refusal.Source line cause) given report)
   refused_with (refusal.Misfit (misfit.Stray address)) given report = rejected (refusal.Misfit (misfit.Stray address)) given report
