@@ -1,6 +1,7 @@
--- What is told of the operands of a line one by one. It hangs on the line, on which names are given, and on the values of `fixed`, those names whose
--- values hang on no address and stand in lines that are right: so it stays whatever other lines are mended to, while they give the same names.
-use Rattle.std.specs.Prelude.{◌==◌, ◌/◌, ◌&&◌, ◌||◌, ℕ, Bool, true, false, not, List, [], ◌∷◌, nat_le, if◌then◌else◌, Option, None, Some, option_map, Result, Ok, Err}
+-- What is told of the operands of a line one by one. It hangs on the line, which is read with no names, on which names are given, and, for a range, on
+-- the numbers of `fixed`, those names whose values hang on no address and stand in lines that are right: so it stays whatever other lines are mended to,
+-- while they give the same names.
+use Rattle.std.specs.Prelude.{◌==◌, ◌/◌, ◌&&◌, ◌||◌, ℕ, Bool, true, false, not, List, [], ◌∷◌, nat_le, if◌then◌else◌, codes, Option, None, Some, is_some, option_map, Result, Ok, Err}
 use Rattle.std.specs.Option.{option_or}
 use Rattle.asm_lex.specs.declared.culprit.Sought.TheVariants.{NotGiven}
 use Rattle.asm_lex.specs.declared.shape.Isa.{Isa}
@@ -15,7 +16,7 @@ use Rattle.asm_lex.specs.declared.words.Entry.TheVariants.{Directive, Mnemonic, 
 use Rattle.asm_lex.specs.Culprits.{is_sought, first_term}
 use Rattle.asm_lex.specs.Forms.{most_of as form_most}
 use Rattle.asm_lex.specs.Lines.{parsed}
-use Rattle.asm_lex.specs.Names.{Names}
+use Rattle.asm_lex.specs.Names.{Names, register_named}
 use Rattle.asm_lex.specs.Operands.{is_unread, is_number_at}
 use Rattle.asm_lex.specs.Places.{place_of}
 use Rattle.asm_lex.specs.Ranges.{origin_of, last_of}
@@ -29,6 +30,10 @@ use Rattle.asm_core.specs.Fixed.{has_address}
 use Rattle.asm_core.specs.Layout.{at_least}
 use Rattle.asm_core.specs.Names.{operand_value}
 use Rattle.asm_core.specs.Told.{word_from}
+
+-- An operand is read with no names: `fixed` has the registers that EQU gives on later lines too, and those hold behind their lines alone.
+abbrev pub no_names : Names
+no_names name = None
 
 abbrev pub found_at : AsmCause → Place → Finding
 found_at cause place = record { cause = cause; place = place }
@@ -73,8 +78,8 @@ number_finding isa fixed given line entry span =
 -- an operand that can't be read whatever names stand for, or a number
 unfoldable pub operand_finding : Isa → Names → Names → List ℕ → Entry → ℕ → Span → Option Finding
 operand_finding isa fixed given line entry k span =
-    if is_unread isa fixed entry k (text_at line span) then Some (found_at BadOperand (place_of span))
-    else if is_number_at isa fixed entry k (text_at line span) then number_finding isa fixed given line entry span
+    if is_unread isa no_names entry k (text_at line span) then Some (found_at BadOperand (place_of span))
+    else if is_number_at isa no_names entry k (text_at line span) then number_finding isa fixed given line entry span
     else None
 
 -- the rest of a line is judged beside a fault that is told of it, unless that is of its bytes or its names
@@ -113,6 +118,11 @@ abbrev pub hangs_on_addresses : Isa → Names → Entry → List ℕ → Bool
 hangs_on_addresses isa fixed entry text =
     is_short_branch entry || (has_address text || is_undefined (operand_value isa fixed 0 65535 text))
 
+-- a name of a register, where one may stand
+abbrev pub is_register_at : Isa → Names → Entry → ℕ → List ℕ → Bool
+is_register_at isa fixed entry k text = is_some (register_named fixed text) && not (is_unread isa no_names entry k (codes "V0"))
+
 unfoldable pub is_waiting : Isa → Names → Bool → Entry → ℕ → List ℕ → Bool
 is_waiting isa fixed behind entry k text =
-    (behind || not (is_taken_at_once entry)) && (is_number_at isa fixed entry k text && hangs_on_addresses isa fixed entry text)
+    (behind || not (is_taken_at_once entry)) && (is_number_at isa no_names entry k text
+    && (not (is_register_at isa fixed entry k text) && hangs_on_addresses isa fixed entry text))

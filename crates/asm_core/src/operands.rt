@@ -1,13 +1,14 @@
 //! What is told of the operands of a line, one by one.
 
-ghost use Rattle.std.specs.Prelude.{◌≡◌, ◌≤◌, [], ◌∷◌, length, option_map};
+ghost use Rattle.std.specs.Prelude.{◌≡◌, ◌≤◌, ◌&&◌, [], ◌∷◌, length, not, codes, is_some, option_map};
 ghost use Rattle.asm_lex.specs.Culprits.{is_sought, first_term};
-ghost use Rattle.asm_lex.specs.Names.{value_in};
+ghost use Rattle.asm_lex.specs.Names.{value_in, register_named};
+ghost use Rattle.asm_lex.specs.Operands.{is_unread, is_number_at};
 ghost use Rattle.asm_lex.specs.Spans.{text_at, IsWithin};
 ghost use Rattle.asm_lex.specs.Lines.{parsed};
 ghost use Rattle.asm_core.specs.Encoding.{is_undefined};
 ghost use Rattle.asm_core.specs.Layout.{at_least};
-ghost use Rattle.asm_core.specs.Operands.{word_most, most_of, least_of, is_range, is_outside, number_finding, operand_finding, is_judged, is_apart, if_apart, further_finding, is_short_branch, is_taken_at_once, hangs_on_addresses, is_waiting};
+ghost use Rattle.asm_core.specs.Operands.{no_names, is_register_at, word_most, most_of, least_of, is_range, is_outside, number_finding, operand_finding, is_judged, is_apart, if_apart, further_finding, is_short_branch, is_taken_at_once, hangs_on_addresses, is_waiting};
 ghost use Rattle.asm_core.specs.Told.{word_from};
 
 use crate::encode::{most_of as form_most, size_at};
@@ -20,6 +21,23 @@ use asm_lex::{
     Entry, Isa, Place, Sought, Span, Symbols, ValueFault, Word, first_term, is_number_at,
     is_unread, line as read_line, place_of, text_at,
 };
+use std::alloc::Global;
+
+// Whether an operand can't be read whatever names stand for.
+fn is_never_read(alloc: Global, isa: Isa, entry: Entry, k: usize, text: &[u8]) -> bool
+    ensures { result ≡ is_unread isa no_names entry k text.now }
+{
+    let none = Symbols::new(alloc);
+    is_unread(isa, &none, entry, k, text)
+}
+
+// Whether it stands for a number, unless a name in it is a register's.
+fn may_be_number(alloc: Global, isa: Isa, entry: Entry, k: usize, text: &[u8]) -> bool
+    ensures { result ≡ is_number_at isa no_names entry k text.now }
+{
+    let none = Symbols::new(alloc);
+    is_number_at(isa, &none, entry, k, text)
+}
 
 // The first name in an operand that isn't given.
 fn not_given(isa: Isa, given: &Symbols, line: &[u8], span: Span) -> Option<Place>
@@ -116,6 +134,7 @@ fn number_finding(
 
 #[tactic(auto, unfolding(crate::specs::Operands::operand_finding))]
 fn operand_finding(
+    alloc: Global,
     isa: Isa,
     fixed: &Symbols,
     given: &Symbols,
@@ -129,12 +148,12 @@ fn operand_finding(
     ensures { result ≡ operand_finding isa (value_in fixed.now) (value_in given.now) line.now entry k span }
 {
     let text = text_at(line, span);
-    if is_unread(isa, fixed, entry, k, text) {
+    if is_never_read(alloc, isa, entry, k, text) {
         let cause = AsmCause::BadOperand;
         let place = place_of(span);
         return Some(Finding { cause, place });
     }
-    if !is_number_at(isa, fixed, entry, k, text) {
+    if !may_be_number(alloc, isa, entry, k, text) {
         return None;
     }
     number_finding(isa, fixed, given, line, entry, span)
@@ -166,6 +185,7 @@ fn is_apart(told: Option<Finding>, place: Place) -> bool
 /// read, that a name in it is none of those that are given, or that it is out of its range. The values of `fixed` hang on no address.
 #[tactic(auto, unfolding(crate::specs::Operands::further_finding))]
 pub fn further_finding(
+    alloc: Global,
     isa: Isa,
     fixed: &Symbols,
     given: &Symbols,
@@ -179,7 +199,7 @@ pub fn further_finding(
     requires short { length line.now ≤ 255 }
     ensures { result ≡ further_finding isa (value_in fixed.now) (value_in given.now) line.now entry k span told }
 {
-    match operand_finding(isa, fixed, given, line, entry, k, span) {
+    match operand_finding(alloc, isa, fixed, given, line, entry, k, span) {
         Some(found) if is_apart(told, found.place) => Some(found),
         _ => None,
     }
@@ -223,10 +243,25 @@ fn hangs_on_addresses(isa: Isa, fixed: &Symbols, entry: Entry, text: &[u8]) -> b
         || is_undefined(operand_value(isa, fixed, 0, u16::MAX, text))
 }
 
+// Whether an operand is a name of a register, where one may stand.
+fn is_register_at(
+    alloc: Global,
+    isa: Isa,
+    fixed: &Symbols,
+    entry: Entry,
+    k: usize,
+    text: &[u8],
+) -> bool
+    ensures { result ≡ is_register_at isa (value_in fixed.now) entry k text.now }
+{
+    fixed.register(text).is_some() && !is_never_read(alloc, isa, entry, k, b"V0")
+}
+
 /// Whether the operand `k`, counted from 0, of a word with this entry waits for the run in which addresses are known; `behind` says that its line stands
 /// behind one of which a fault is told. The values of `fixed` hang on no address.
 #[tactic(auto, unfolding(crate::specs::Operands::is_waiting))]
 pub fn is_waiting(
+    alloc: Global,
     isa: Isa,
     fixed: &Symbols,
     behind: bool,
@@ -238,6 +273,7 @@ pub fn is_waiting(
     ensures { result ≡ is_waiting isa (value_in fixed.now) behind entry k text.now }
 {
     (behind || !is_taken_at_once(entry))
-        && is_number_at(isa, fixed, entry, k, text)
+        && may_be_number(alloc, isa, entry, k, text)
+        && !is_register_at(alloc, isa, fixed, entry, k, text)
         && hangs_on_addresses(isa, fixed, entry, text)
 }

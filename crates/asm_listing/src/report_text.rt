@@ -219,7 +219,7 @@ fn append_entry(
 {
     for k in 0..spans.len() {
         let span = span_at(line, spans, k);
-        let found = further_finding(isa, fixed, given, line, entry, k, span, told);
+        let found = further_finding(alloc, isa, fixed, given, line, entry, k, span, told);
         append_finding_of(alloc, text, isa, given, name, number, line, found)?;
     }
     Ok(())
@@ -543,7 +543,17 @@ fn whole_text(
     let rest = rest_of(alloc, isa, names, fixed, name, text, told, faulty)?;
     append(&mut report, rest.as_slice())?;
     append_octo(&mut report, name, octo_count(isa, text, told))?;
-    append_waiting(&mut report, isa, names, fixed, name, text, told, *waits)?;
+    append_waiting(
+        alloc,
+        &mut report,
+        isa,
+        names,
+        fixed,
+        name,
+        text,
+        told,
+        *waits,
+    )?;
     Ok(report)
 }
 

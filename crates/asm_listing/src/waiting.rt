@@ -15,10 +15,11 @@ use crate::write::append_each;
 use asm_core::{Finding, Told, further_finding, is_waiting, next_line};
 use asm_lex::{Entry, Isa, Span, Symbols, line_entry, line_spans, text_at};
 use itoa::Buffer as Digits;
-use std::alloc::AllocError;
+use std::alloc::{AllocError, Global};
 
 // Whether something is told of the operand `k`.
 fn is_told(
+    alloc: Global,
     isa: Isa,
     given: &Symbols,
     fixed: &Symbols,
@@ -33,10 +34,11 @@ fn is_told(
     ensures { result ≡ is_some (operand_found isa (value_in given.now) (value_in fixed.now) line.now None spans.now entry k) }
 {
     let span = span_at(line, spans, k);
-    further_finding(isa, fixed, given, line, entry, k, span, None).is_some()
+    further_finding(alloc, isa, fixed, given, line, entry, k, span, None).is_some()
 }
 
 fn some_are_told(
+    alloc: Global,
     isa: Isa,
     given: &Symbols,
     fixed: &Symbols,
@@ -50,12 +52,13 @@ fn some_are_told(
 {
     let mut some = false;
     for k in 0..spans.len() {
-        some = some || is_told(isa, given, fixed, line, spans, entry, k);
+        some = some || is_told(alloc, isa, given, fixed, line, spans, entry, k);
     }
     some
 }
 
 fn some_wait(
+    alloc: Global,
     isa: Isa,
     fixed: &Symbols,
     behind: bool,
@@ -70,13 +73,20 @@ fn some_wait(
     let mut some = false;
     for k in 0..spans.len() {
         let text = text_at(line, span_at(line, spans, k));
-        some = some || is_waiting(isa, fixed, behind, entry, k, text);
+        some = some || is_waiting(alloc, isa, fixed, behind, entry, k, text);
     }
     some
 }
 
 #[tactic(auto, unfolding(crate::specs::Told::line_waits))]
-fn line_waits(isa: Isa, given: &Symbols, fixed: &Symbols, behind: bool, line: &[u8]) -> bool
+fn line_waits(
+    alloc: Global,
+    isa: Isa,
+    given: &Symbols,
+    fixed: &Symbols,
+    behind: bool,
+    line: &[u8],
+) -> bool
     ensures { result ≡ line_waits isa (value_in given.now) (value_in fixed.now) behind line.now }
 {
     if line.len() > 255 {
@@ -86,8 +96,8 @@ fn line_waits(isa: Isa, given: &Symbols, fixed: &Symbols, behind: bool, line: &[
     let operands = spans.operands.as_slice();
     match line_entry(isa, line) {
         Some(entry) => {
-            some_wait(isa, fixed, behind, line, operands, entry)
-                && !some_are_told(isa, given, fixed, line, operands, entry)
+            some_wait(alloc, isa, fixed, behind, line, operands, entry)
+                && !some_are_told(alloc, isa, given, fixed, line, operands, entry)
         }
         None => false,
     }
@@ -95,6 +105,7 @@ fn line_waits(isa: Isa, given: &Symbols, fixed: &Symbols, behind: bool, line: &[
 
 // Whether a line waits of which this is told; `behind` says that a fault is told before it.
 fn waits(
+    alloc: Global,
     isa: Isa,
     given: &Symbols,
     fixed: &Symbols,
@@ -106,11 +117,18 @@ fn waits(
 {
     match told {
         Some(_) => false,
-        None => line_waits(isa, given, fixed, behind, line),
+        None => line_waits(alloc, isa, given, fixed, behind, line),
     }
 }
 
-fn waiting_count(isa: Isa, given: &Symbols, fixed: &Symbols, text: &[u8], told: &Told) -> u32
+fn waiting_count(
+    alloc: Global,
+    isa: Isa,
+    given: &Symbols,
+    fixed: &Symbols,
+    text: &[u8],
+    told: &Told,
+) -> u32
     requires text { length text.now ≤ most_bytes }
     requires told { AreTold isa (source_lines text.now) told.now.findings.items }
     requires given { value_in given.now ≡ given_names isa (source_lines text.now) }
@@ -124,7 +142,7 @@ fn waiting_count(isa: Isa, given: &Symbols, fixed: &Symbols, text: &[u8], told: 
     let mut rest = text;
     while let Some((line, more)) = next_line(rest) {
         let finding = told_at(findings, number as usize);
-        count += one_if(waits(isa, given, fixed, behind, line, finding));
+        count += one_if(waits(alloc, isa, given, fixed, behind, line, finding));
         behind = behind || finding.is_some();
         number += 1;
         rest = more;
@@ -160,6 +178,7 @@ fn append_count(text: &mut Vec<u8>, name: &[u8], count: u32) -> Result<(), Alloc
 
 /// Says how many lines wait for the next run, where pass 2 didn't run.
 pub(crate) fn append_waiting(
+    alloc: Global,
     report: &mut Vec<u8>,
     isa: Isa,
     given: &Symbols,
@@ -176,7 +195,11 @@ pub(crate) fn append_waiting(
     ensures { OnOk result (report.new.items ≡ report.old.items ++ waiting_line isa faulty name.now (source_lines text.now)) }
 {
     if faulty {
-        append_count(report, name, waiting_count(isa, given, fixed, text, told))
+        append_count(
+            report,
+            name,
+            waiting_count(alloc, isa, given, fixed, text, told),
+        )
     } else {
         Ok(())
     }
