@@ -61,7 +61,7 @@ HelpComes verb = Writes (help_text verb)
 -- ---- the version
 
 abbrev pub version_text : List ℕ
-version_text = codes "vip 1.1-dev" ++ newline
+version_text = codes "vip 2.0" ++ newline
 
 abbrev pub VersionComes : Judged Output
 VersionComes = Writes version_text

@@ -17,7 +17,7 @@ const VERB_COLUMN: &[u8] = b"                            ";
 const OPTION_COLUMN: &[u8] = b"             ";
 
 /// The name and the version.
-const VERSION: &[u8] = b"vip 1.1-dev\n";
+const VERSION: &[u8] = b"vip 2.0\n";
 
 /// A text that is filled up with blanks to a column.
 fn padded(alloc: Global, text: &[u8], column: &[u8]) -> Result<Vec<u8>, AllocError>
