@@ -14,3 +14,4 @@ pub mod Appends
 mod Tried
 pub mod Leveled
 pub mod Unpaid
+pub mod Reaching

@@ -8,3 +8,4 @@ pub mod Exits
 pub mod Obstacles
 pub mod Forward
 pub mod Found
+pub mod Reach

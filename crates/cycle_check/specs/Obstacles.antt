@@ -1,15 +1,17 @@
 -- Why no certificate of a routine was found.
-use Rattle.std.specs.Prelude.{◌≡◌, ℕ, ◌+◌, ◌%◌, ◌<◌, ◌≤◌, ◌==◌, ◌&&◌, ◌⊎◌, Bool, true, false, List, length, map, slice_index, IfSome, Option, Some, None}
-use Rattle.std.specs.List.{All, Any}
+use Rattle.std.specs.Prelude.{◌≡◌, ℕ, zero, suc, ◌+◌, ◌-◌, ◌*◌, ◌%◌, ◌<◌, ◌≤◌, ◌==◌, ◌&&◌, ◌||◌, not, nat_le, nat_lt, is_none, if◌then◌else◌, ◌⊎◌, Bool, true, false, List, length, map, slice_index, IfSome, Option, Some, None}
+use Rattle.std.specs.List.{All, Any, sum_by}
+use Rattle.std.specs.Option.{option_map_or}
 use Rattle.machine.specs.declared.Kind.{Kind}
-use Rattle.machine.specs.declared.Kind.TheVariants.{Inc, Dec, Lda, Plo}
+use Rattle.machine.specs.declared.Kind.TheVariants.{Bnz, Bz, Dec, Inc, Lbnz, Lbz, Lda, Plo}
 use Rattle.cycle_check.specs.declared.grammar.Bound.{Bound}
 use Rattle.cycle_check.specs.declared.grammar.Fact.{Fact}
 use Rattle.cycle_check.specs.declared.grammar.Fact.TheVariants as says
 use Rattle.cycle_check.specs.declared.grammar.Line.{Line}
 use Rattle.cycle_check.specs.declared.closed.Instruction.{Instruction}
 use Rattle.cycle_check.specs.declared.table.Way.{Way}
-use Rattle.cycle_check.specs.Table.{x_after}
+use Rattle.cycle_check.specs.declared.table.Ways.{Ways}
+use Rattle.cycle_check.specs.Table.{assigns_d, assigns_named, x_after}
 use Rattle.cycle_check.specs.Certificate.{most_left}
 use Rattle.cycle_check.specs.Closed.{cause_at, first_from, fits_x, instruction_at, is_allowed, is_closed, is_open, is_shown, lets_through, line_at, ways_from}
 
@@ -114,8 +116,70 @@ pub data Reached (rom : List ℕ) (bound : Bound) (line_of : ℕ → Option Line
       → IsWay rom bound address way to → lets_through line.fact way.when ≡ true
       → Reached rom bound line_of to (x_after (instruction_at rom address).op.kind (instruction_at rom address).op.n x)
 
+-- ---- which facts a line may say
+
+-- how many instructions are looked at for a use of D
+abbrev pub most_looked : ℕ
+most_looked = 64
+
+-- the instruction branches on D, or puts it into the counter
+abbrev pub asks_here : Kind → Bool → Bool
+asks_here Bz named = true
+asks_here Bnz named = true
+asks_here Lbz named = true
+asks_here Lbnz named = true
+asks_here Plo named = named
+asks_here kind named = false
+
+-- it assigns D, or else the counter
+abbrev pub ends_here : Kind → Bool → Bool
+ends_here kind named = assigns_d kind || assigns_named kind && named
+
+-- the next address, where there is one and it lies in the ROM
+abbrev pub in_rom : Option ℕ → Option ℕ
+in_rom None = None
+in_rom (Some to) = if nat_le 0x8000 to && nat_lt to 0x8800 then Some to else None
+
+abbrev pub only_next : Ways → Option ℕ
+only_next ways = if is_none ways.second then in_rom ways.first.to else None
+
+-- a fact that says what D is
+abbrev pub is_of_d : Fact → Bool
+is_of_d says.Copy = true
+is_of_d (says.Is byte) = true
+is_of_d fact = false
+
+module _ (rom : List ℕ) (bound : Bound) where
+  -- D is asked for from an address on before it is assigned, within so many instructions with one way each
+  pub asks_within : ℕ → Option ℕ → Bool
+  asks_within zero at = false
+  asks_within (suc n) None = false
+  asks_within (suc n) (Some address) =
+      asks_here (instruction_at rom address).op.kind ((instruction_at rom address).op.n == bound.k)
+      || (not (ends_here (instruction_at rom address).op.kind ((instruction_at rom address).op.n == bound.k))
+      && asks_within n (only_next (ways_from bound address (instruction_at rom address))))
+
+  abbrev pub asks_d : ℕ → Bool
+  asks_d address = asks_within most_looked (Some address)
+
+-- A fact that the line of an address can't say, by what the other lines say: it is the entry's; the fact says what D is, and D isn't asked for; or a way leads
+-- there that doesn't show it. The line where that way begins lets it through, and if that says nothing, the fact there would close the way, or wouldn't
+-- show it behind it, or can't be said there either.
+pub data Unsaid (rom : List ℕ) (bound : Bound) (line_of : ℕ → Option Line) (fact : Fact) : ℕ → Type 0 where
+  Enters : Unsaid rom bound line_of fact bound.entry
+  Unasked : (address : ℕ) → is_of_d fact ≡ true → asks_d rom bound address ≡ false → Unsaid rom bound line_of fact address
+  Passes : (address to : ℕ) (line : Line) (way : Way) → line_of address ≡ Some line → IsWay rom bound address way to → lets_through line.fact way.when ≡ true
+      → is_shown bound.k (instruction_at rom address) line.fact way.when 0 fact ≡ false
+      → (line.fact ≡ says.Any → lets_through fact way.when ≡ true → is_shown bound.k (instruction_at rom address) fact way.when 0 fact ≡ true
+      → Unsaid rom bound line_of fact address)
+      → Unsaid rom bound line_of fact to
+
 module _ (rom : List ℕ) (bound : Bound) where
   -- ---- the lines of a routine
+
+  -- A line that says nothing can say no fact. So no fact could be said at more addresses, while the lines that say something go on saying it.
+  abbrev pub IsFull : (ℕ → Option Line) → Line → Type 0
+  IsFull line_of line = line.fact ≡ says.Any → (fact : Fact) → (fact ≡ says.Any → ⊥) → Unsaid rom bound line_of fact line.address
 
   -- an X that a line may ask for at an address, by whichever ways it is reached
   abbrev pub FitsReached : (ℕ → Option Line) → ℕ → Option ℕ → Type 0
@@ -145,6 +209,10 @@ module _ (rom : List ℕ) (bound : Bound) where
   -- the lines, without what they say of the cycles that are left
   abbrev pub AreOfWays : List Line → Type 0
   AreOfWays lines = AreReached (map without_costs lines)
+
+-- the cycles of a turn's instructions
+abbrev pub turn_cycles : List ℕ → List ℕ → ℕ
+turn_cycles rom = sum_by (λ address. (instruction_at rom address).cycles)
 
 module _ (rom : List ℕ) (bound : Bound) where
   abbrev pub LeadsTo : ℕ → Option ℕ → Type 0
@@ -208,6 +276,62 @@ module _ (rom : List ℕ) (bound : Bound) where
   -- No BASE is greater than that of the same line among closed lines which differ from these in their BASEs alone.
   abbrev pub AreLeast : List Line → Type 0
   AreLeast lines = (base : ℕ → ℕ) → AreClosed (with_bases base lines) → All (λ line. line.base ≤ base line.address) lines
+
+  -- ---- the least STEPs
+
+  -- a way leads from a line to another one, let through by the first one's fact
+  pub record LeadsBy (lines : List Line) (address to : ℕ) : Type 0 where
+    pub line : Line
+    pub there : line_at lines address ≡ Some line
+    pub behind : Line
+    pub ends : line_at lines to ≡ Some behind
+    pub way : Way
+    pub is : IsWay rom bound address way to
+    pub through : lets_through line.fact way.when ≡ true
+
+  -- such ways lead from a line to another one, or back to it
+  pub data Leads (lines : List Line) : ℕ → ℕ → Type 0 where
+    Once : (address to : ℕ) → LeadsBy lines address to → Leads lines address to
+    Further : (address next to : ℕ) → LeadsBy lines address next → Leads lines next to → Leads lines address to
+
+  -- two lines are of one loop
+  abbrev pub AreJoined : List Line → ℕ → ℕ → Type 0
+  AreJoined lines one other = Leads lines one other × Leads lines other one
+
+  -- STEPs that are one less at the lines of an address's loop, and else those that the lines have
+  abbrev pub IsLowered : List Line → ℕ → (ℕ → ℕ) → Line → Type 0
+  IsLowered lines address step other =
+      (AreJoined lines address other.address → step other.address ≡ other.step - 1)
+      × ((AreJoined lines address other.address → ⊥) → step other.address ≡ other.step)
+
+  -- With a STEP of one less for a loop no BASEs close the lines that a certificate may say.
+  abbrev pub IsLeastOfLoop : List Line → ℕ → Type 0
+  IsLeastOfLoop lines address = (base step : ℕ → ℕ) → All (IsLowered lines address step) lines → AreClosed (with_costs base step lines)
+      → All (λ line. base line.address ≤ most_left) lines → ⊥
+
+  -- A STEP isn't too great: that of a loop is the least; a line of no loop isn't closed with its BASE and a STEP of one less.
+  pub record IsPaced (lines : List Line) (line : Line) : Type 0 where
+    pub of_loop : Leads lines line.address line.address → IsLeastOfLoop lines line.address
+    pub alone : (Leads lines line.address line.address → ⊥)
+        → is_closed bound lines (record line { step = line.step - 1 }) (instruction_at rom line.address) ≡ false
+
+  abbrev pub ArePaced : List Line → Type 0
+  ArePaced lines = All (λ line. 0 < line.step → IsPaced lines line) lines
+
+  -- ---- turns that a STEP doesn't pay for
+
+  -- how many lines of a turn take one from the counter
+  abbrev pub takes_at : List Line → ℕ → ℕ
+  takes_at lines address = option_map_or (λ line. if takes_counter bound line (instruction_at rom address) then 1 else 0) (line_at lines address) 0
+
+  abbrev pub turn_takes : List Line → List ℕ → ℕ
+  turn_takes lines = sum_by (takes_at lines)
+
+  -- A turn leads from an address back to it, and costs more cycles than this STEP pays for at its lines that take from the counter.
+  pub record IsShort (lines : List Line) (turn : List ℕ) (step : ℕ) : Type 0 where
+    pub some : 0 < length turn
+    pub goes : (i : ℕ) → i < length turn → LeadsBy lines (slice_index turn i) (slice_index turn ((i + 1) % length turn))
+    pub costs : step * turn_takes lines turn < turn_cycles rom turn
 
   -- ---- Fact
 

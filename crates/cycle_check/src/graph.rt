@@ -92,8 +92,8 @@ impl Graph {
         }
     }
 
-    // The places to which one leads by all ways, or only where it doesn't take from the counter.
-    fn targets(&self, place: u16, counts: bool) -> [Option<u16>; 2] {
+    /// The places to which one leads by all ways, or only where it doesn't take from the counter.
+    pub fn targets(&self, place: u16, counts: bool) -> [Option<u16>; 2] {
         match self.node(place) {
             Some(node) if counts || !node.takes => {
                 let second = match node.ways.second {

@@ -32,6 +32,8 @@ mod graph;
 mod known;
 pub mod laws;
 mod least;
+mod reach;
+mod short;
 mod table;
 mod turn;
 mod write;

@@ -3,7 +3,7 @@
 ghost use Rattle.std.specs.Prelude.{◌≡◌, ℕ, ◌+◌, ◌<◌, ◌≤◌, ◌%◌, true, false, length, slice_index, Some};
 ghost use Rattle.std.specs.List.{All, Any};
 ghost use Rattle.cycle_check.specs.Forward.{IsTrueOf};
-ghost use Rattle.cycle_check.specs.Obstacles.{IsUncounted, IsUnpaid, LeadsOn, LeadsUnpaid, MayRaise, assigns_counter, assigns_low, says_some, takes_counter, takes_one};
+ghost use Rattle.cycle_check.specs.Obstacles.{IsShort, IsUncounted, IsUnpaid, LeadsBy, LeadsOn, MayRaise, assigns_counter, assigns_low, says_some, takes_at, takes_counter, takes_one, turn_cycles, turn_takes};
 ghost use Rattle.cycle_check.specs.Reading.{AreRising};
 
 use crate::closed::{Instruction, instruction_at, is_open, lets_through, line_at, ways_from};
@@ -51,19 +51,52 @@ pub fn takes_counter(bound: &Bound, line: &Line, instruction: &Instruction) -> b
     takes_one(op.kind) && op.n == bound.k && says_some(line.fact)
 }
 
-// Whether a line's way leads from one address to another one, and the line takes nothing from the counter.
-fn leads_unpaid(rom: &[u8], bound: &Bound, lines: &[Line], address: u16, to: u16) -> bool
+// How many a line of an address takes from the counter.
+fn takes_at(rom: &[u8], bound: &Bound, lines: &[Line], address: u16) -> u64
     requires { AreRising lines.now }
-    ensures { result ≡ true → LeadsUnpaid rom.now bound.now lines.now address to }
+    ensures { result ≡ takes_at rom.now bound.now lines.now address }
+{
+    match line_at(lines, u32::from(address)) {
+        Some(line) => u64::from(takes_counter(bound, &line, &instruction_at(rom, address))),
+        None => 0,
+    }
+}
+
+// How many the lines of a turn take.
+fn turn_takes(rom: &[u8], bound: &Bound, lines: &[Line], turn: &[u16]) -> u64
+    requires { AreRising lines.now }
+    ensures { result ≡ turn_takes rom.now bound.now lines.now turn.now }
+{
+    let mut takes = 0;
+    for address in turn {
+        takes += takes_at(rom, bound, lines, *address);
+    }
+    takes
+}
+
+// The cycles of a turn's instructions, or fewer: a slice may be so long that they pass a u64.
+fn turn_cycles(rom: &[u8], turn: &[u16]) -> u64
+    ensures { result ≤ turn_cycles rom.now turn.now }
+{
+    let mut cycles = 0u64;
+    for address in turn {
+        cycles = cycles.saturating_add(u64::from(instruction_at(rom, *address).cycles));
+    }
+    cycles
+}
+
+// Whether a way leads from a line to another one, let through by the first one's fact.
+fn leads_by(rom: &[u8], bound: &Bound, lines: &[Line], address: u16, to: u16) -> bool
+    requires { AreRising lines.now }
+    ensures { result ≡ true → LeadsBy rom.now bound.now lines.now address to }
 {
     let Some(line) = line_at(lines, u32::from(address)) else {
         return false;
     };
-    let instruction = instruction_at(rom, address);
-    if takes_counter(bound, &line, &instruction) {
+    let Some(_) = line_at(lines, u32::from(to)) else {
         return false;
-    }
-    let ways = ways_from(bound, address, &instruction);
+    };
+    let ways = ways_from(bound, address, &instruction_at(rom, address));
     if lets_through(line.fact, ways.first.when) && goes_to(ways.first, to) {
         return true;
     }
@@ -73,20 +106,15 @@ fn leads_unpaid(rom: &[u8], bound: &Bound, lines: &[Line], address: u16, to: u16
     }
 }
 
-// Whether each address of a turn leads so to the next one, and the last to the first.
-fn goes_unpaid(rom: &[u8], bound: &Bound, lines: &[Line], turn: &[u16]) -> bool
+// Whether each line of a turn leads so to the next one, and the last to the first.
+fn goes_by(rom: &[u8], bound: &Bound, lines: &[Line], turn: &[u16]) -> bool
     requires { AreRising lines.now }
     ensures { result ≡ true → (i : ℕ) → i < length turn.now
-        → LeadsUnpaid rom.now bound.now lines.now (slice_index turn.now i) (slice_index turn.now ((i + 1) % length turn.now)) }
+        → LeadsBy rom.now bound.now lines.now (slice_index turn.now i) (slice_index turn.now ((i + 1) % length turn.now)) }
 {
     for place in 0..turn.len() {
-        if !leads_unpaid(
-            rom,
-            bound,
-            lines,
-            turn[place],
-            turn[(place + 1) % turn.len()],
-        ) {
+        let next = turn[(place + 1) % turn.len()];
+        if !leads_by(rom, bound, lines, turn[place], next) {
             return false;
         }
     }
@@ -99,9 +127,19 @@ pub fn is_unpaid(rom: &[u8], bound: &Bound, lines: &[Line], turn: &[u16]) -> boo
     ensures { result ≡ true → IsUnpaid rom.now bound.now lines.now (slice_index turn.now 0) }
 {
     match turn {
-        [_, ..] => goes_unpaid(rom, bound, lines, turn),
+        [_, ..] => { goes_by(rom, bound, lines, turn) && turn_takes(rom, bound, lines, turn) == 0 }
         [] => false,
     }
+}
+
+/// Whether a turn costs more cycles than a STEP pays for at its lines that take from the counter.
+pub fn is_short(rom: &[u8], bound: &Bound, lines: &[Line], turn: &[u16], step: u32) -> bool
+    requires { AreRising lines.now }
+    ensures { result ≡ true → IsShort rom.now bound.now lines.now turn.now step }
+{
+    // where the product passes a u64 the cycles that are counted don't pass it
+    let paid = u64::from(step).saturating_mul(turn_takes(rom, bound, lines, turn));
+    goes_by(rom, bound, lines, turn) && paid < turn_cycles(rom, turn)
 }
 
 impl Forward<'_> {

@@ -1,13 +1,21 @@
-use Rattle.std.proofs.Common.{refl, arith}
-use Rattle.cycle_check.proofs.Unpaid.{turn_open}
+use Rattle.std.proofs.Common.{arith, refl, sym, ◌∙◌}
+use Rattle.std.proofs.lemmas.Bool.{eqb-true}
+use Rattle.cycle_check.proofs.Unpaid.{short_open, unpaid_at, unpaid_short}
 use Rattle.cycle_check.proofs.turn.is_unpaid.Goals as goal
 
-pub returns-in-len1-up : goal.returns-in-len1-up
-returns-in-len1-up c unpaid = record {
-  turn = c.args.turn.now;
-  some = omega arith;
-  begins = refl;
-  goes = c.goes_unpaid.ensures unpaid;
-  stays_open = λ base step level.
-      turn_open c.args.rom.now c.args.bound.now c.args.lines.now c.args.turn.now (omega arith) (c.goes_unpaid.ensures unpaid) base step _ level;
-}
+pub returns-then-goes_by : goal.returns-then-goes_by
+returns-then-goes_by c unpaid =
+    let rom = c.args.rom.now in
+    let bound = c.args.bound.now in
+    let lines = c.args.lines.now in
+    let turn = c.args.turn.now in
+    let goes = c.goes_by.ensures c.if-goes_by.true in
+    let none = sym c.turn_takes.ensures ∙ eqb-true c.turn_takes.result 0 unpaid in
+    record {
+      turn = turn;
+      some = omega arith;
+      begins = refl;
+      goes = unpaid_at rom bound lines turn (omega arith) goes none;
+      stays_open = λ base step level.
+          short_open rom bound lines turn _ (unpaid_short rom bound lines turn (omega arith) goes none _) base step level;
+    }
