@@ -1,5 +1,5 @@
 -- The lines of a routine, as one of them is set, and as none is to be set any more.
-use Rattle.std.proofs.Common.{◌≡◌, ℕ, suc, ◌+◌, ◌-◌, ◌<◌, ◌≤◌, ◌⊎◌, Bool, true, false, true≢false, eqb, Option, Some, None, List, [], ◌∷◌, ◌++◌, length, map, get_or, replicate, refl, sym, ap, subst, ◌∙◌, arith, inl, inr}
+use Rattle.std.proofs.Common.{◌≡◌, ℕ, ◌+◌, ◌-◌, ◌<◌, ◌≤◌, ◌⊎◌, Bool, true, false, true≢false, eqb, Option, Some, None, List, [], ◌∷◌, ◌++◌, length, map, get_or, replicate, refl, sym, ap, subst, ◌∙◌, arith, inl, inr}
 use Rattle.std.specs.List.{All, sum_by}
 use Rattle.std.specs.Option.{option_map_or, option_or}
 use Rattle.std.specs.Prelude.{IfSome, MatchOption, slice_set}
@@ -23,11 +23,11 @@ use Rattle.cycle_check.specs.declared.table.Ways.{Ways}
 use Rattle.cycle_check.specs.Table.{x_after}
 use Rattle.cycle_check.specs.Closed.{fits_x, instruction_at, is_shown, lets_through, line_at, ways_from}
 use Rattle.cycle_check.specs.Forward.{AreDrawn, AreHeld, AreHeldFrom, AreMade, AreWhole, IsDrawn, IsEnd, IsHeld, IsLess, IsWayHeld, common, drawn_at, fact_weight, weight}
-use Rattle.cycle_check.specs.Obstacles.{AreReached, FitsReached, HasLine, IsOneOf, IsReached, IsWay, Reached, without_costs}
+use Rattle.cycle_check.specs.Obstacles.{AreReached, FitsReached, HasLine, IsOfByte, IsOneOf, IsReached, IsWay, Reached, without_costs}
 use Rattle.cycle_check.specs.Obstacles.Reached.{Reaches, Starts}
 use Rattle.cycle_check.proofs.Leading.{fits-common, fits-none}
 use Rattle.cycle_check.specs.Reading.{AreRising, AreStrict}
-use Rattle.cycle_check.proofs.Lookup.{address_of-found, line_at-none}
+use Rattle.cycle_check.proofs.Lookup.{address_of-found, found_some, line_at-none}
 use Rattle.cycle_check.proofs.Raised.{none_least}
 
 -- ---- X
@@ -89,11 +89,7 @@ common_none (Some x) given none = cc
 
 -- what holds of all lines holds of the one that has an address
 pub found_all : (P : Line → Type 0) (lines : List Line) (a : ℕ) (line : Line) → line_at lines a ≡ Some line → All P lines → P line
-found_all P [] a line found all = cc
-found_all P (first ∷ lines) a line found all = elim (cases_Bool (eqb first.address a)) [
-  | inl same ↦ let is : Some first ≡ Some line = rw same at found in subst P (same_Some first line is) (all 0 first (omega arith))
-  | inr other ↦ found_all P lines a line (rw other at found) (λ i d within. all (suc i) d (omega arith))
-]
+found_all P lines a line found all = subst (λ (o : Option Line). IfSome o P) found (found_some P lines a all)
 
 -- a line with a greater address behind lines
 strict_push : (lines : List Line) (line : Line) → AreStrict lines → All (λ l. l.address < line.address) lines → AreStrict (lines ++ line ∷ [])
@@ -111,7 +107,7 @@ module _ (rom : List ℕ) (bound : Bound) where
   abbrev pub Inside : ℕ → Type 0
   Inside address = (0x8000 ≤ address) × (address < 0x8800)
 
-  reached_inside : (line_of : ℕ → Option Line) (address : ℕ) (given : Option ℕ) → Reached rom bound line_of address given → Inside address
+  pub reached_inside : (line_of : ℕ → Option Line) (address : ℕ) (given : Option ℕ) → Reached rom bound line_of address given → Inside address
   reached_inside line_of _ _ (Starts inside) = inside
   reached_inside line_of _ _ (Reaches address to x line way led there is_way opens) = is_way.inside
 
@@ -314,8 +310,8 @@ module _ (rom : List ℕ) (bound : Bound) where
         back : More (line_at lines) line_of
         back = same_more (line_at lines) line_of (λ address inside. sym (same address inside))
 
-        pub reached_lines : AreReached rom bound lines
-        reached_lines = record {
+        pub reached_lines : All (λ line. IsOfByte line.fact) lines → AreReached rom bound lines
+        reached_lines bytes = record {
           all = λ address given led.
               let found = has_line address given (reached_more (line_at lines) line_of back address given led) in
               (found.0, same address (reached_inside (line_at lines) address given led) ∙ found.1, found.2);
@@ -329,6 +325,7 @@ module _ (rom : List ℕ) (bound : Bound) where
               let held = held_at line.address line way to is.0 is.1 is_way opens in
               let found : held.behind ≡ behind = same_Some held.behind behind (sym held.there ∙ sym (same to is_way.inside) ∙ there) in
               subst (λ (b : Line). is_shown bound.k (instruction_at rom line.address) line.fact way.when 0 b.fact ≡ true) found held.fact;
+          bytes = bytes;
           entered = λ line found.
               let inside : Inside bound.entry = inside_of line found in
               let first = drawn.entry inside in
@@ -356,6 +353,7 @@ module _ (rom : List ℕ) (bound : Bound) (places : List (Option Line)) where
     pub none : All (λ line. line.base ≡ 0) lines
     pub same : (address : ℕ) → 0x8000 ≤ address → address < 0x8000 + count → line_at (map without_costs lines) address ≡ drawn_at places address
     pub listed : All (λ line. Inside rom bound line.address × (drawn_at places line.address ≡ Some line)) (map without_costs lines)
+    pub bytes : All (λ line. IsOfByte line.fact) (map without_costs lines)
 
   pub listed_none : AreListed 0 []
   listed_none = record {
@@ -365,6 +363,7 @@ module _ (rom : List ℕ) (bound : Bound) (places : List (Option Line)) where
     none = λ i d within. absurd (omega (arith, within));
     same = λ address low high. absurd (omega (arith, low, high));
     listed = λ i d within. absurd (omega (arith, within));
+    bytes = λ i d within. absurd (omega (arith, within));
   }
 
   module _ (count : ℕ) (lines : List Line) (h : AreListed count lines) where
@@ -387,10 +386,11 @@ module _ (rom : List ℕ) (bound : Bound) (places : List (Option Line)) where
         | inr behind ↦ let here : address ≡ 0x8000 + count = omega (arith, high, behind) in rw here (no_line ∙ sym (there_is None none))
       ];
       listed = h.listed;
+      bytes = h.bytes;
     }
 
     module _ (drawn : AreDrawn rom bound places) (line stepped : Line) (within : count < 2048) (there : get_or places count None ≡ Some line)
-        (is : stepped ≡ record line { step = stepped.step }) where
+        (is : stepped ≡ record line { step = stepped.step }) (byte : IsOfByte stepped.fact) where
       drawn_line : IsDrawn rom bound places count line
       drawn_line = drawn.each count line there
 
@@ -436,13 +436,16 @@ module _ (rom : List ℕ) (bound : Bound) (places : List (Option Line)) where
               (omega (arith, drawn_line.of), omega (arith, drawn_line.of, within)),
               subst (λ address. drawn_at places address ≡ Some line) (sym drawn_line.of) (there_is (Some line) there),
             ));
+        bytes =
+            rw grown (All-push (λ (l : Line). IsOfByte l.fact) (map without_costs lines) line h.bytes
+            (subst IsOfByte (ap (λ (l : Line). l.fact) is) byte));
       }
 
   pub listed_all : (lines : List Line) → AreDrawn rom bound places → AreWhole rom bound places → AreListed 2048 lines → AreMade rom bound lines
   listed_all lines drawn whole h = record {
     rising = h.rising;
     strict = h.strict;
-    of_ways = reached_lines rom bound places drawn whole (map without_costs lines) (λ address inside. h.same address inside.0 (omega (arith, inside.1))) h.listed;
+    of_ways = reached_lines rom bound places drawn whole (map without_costs lines) (λ address inside. h.same address inside.0 (omega (arith, inside.1))) h.listed h.bytes;
     least = none_least rom bound lines h.none;
   }
 

@@ -14,4 +14,6 @@ pub mod Appends
 mod Tried
 pub mod Leveled
 pub mod Unpaid
+pub mod Carried
+pub mod Gaps
 pub mod Reaching

@@ -1,6 +1,7 @@
 -- The line with an address, among lines whose addresses don't fall.
-use Rattle.std.proofs.Common.{◌≡◌, ℕ, zero, suc, ◌+◌, ◌<◌, ◌≤◌, true, false, eqb, ltb, List, [], ◌∷◌, length, get_or, drop, Option, Some, None, refl, sym, ap, ◌∙◌, arith, inl, inr, le_refl}
-use Rattle.std.specs.List.{AllWithin}
+use Rattle.std.proofs.Common.{◌≡◌, ℕ, zero, suc, ◌+◌, ◌<◌, ◌≤◌, true, false, eqb, ltb, List, [], ◌∷◌, length, get_or, drop, map, Option, Some, None, refl, sym, ap, ◌∙◌, arith, inl, inr, le_refl}
+use Rattle.std.specs.List.{All, AllWithin}
+use Rattle.std.specs.Prelude.{option_map, IfSome}
 use Rattle.std.proofs.lemmas.Bool.{eq-eqb, ne_eqb, eqb-true, ltb-true, ltb-false, cases_Bool, cases_lt}
 use Rattle.std.proofs.lemmas.List.{drop_more, drop_all}
 use Rattle.std.proofs.lemmas.Option.{same_Some}
@@ -33,6 +34,23 @@ address_of-found (first ∷ lines) a line found = elim (cases_Bool (eqb first.ad
       let is : Some first ≡ Some line = rw same at found in
       sym (ap (λ l. l.address) (same_Some first line is)) ∙ eqb-true first.address a same
   | inr other ↦ address_of-found lines a line (rw other at found)
+]
+
+-- lines that are changed, each but for its address
+pub line_at-map : (f : Line → Line) → ((line : Line) → (f line).address ≡ line.address) → (lines : List Line) (a : ℕ)
+    → line_at (map f lines) a ≡ option_map f (line_at lines a)
+line_at-map f same [] a = refl
+line_at-map f same (line ∷ lines) a = elim (cases_Bool (eqb line.address a)) [
+  | inl here ↦ let there : eqb (f line).address a ≡ true = ap (λ n. eqb n a) (same line) ∙ here in rw (there, here) refl
+  | inr other ↦ let nowhere : eqb (f line).address a ≡ false = ap (λ n. eqb n a) (same line) ∙ other in rw (nowhere, other) (line_at-map f same lines a)
+]
+
+-- what all lines have, that of an address has, if there is one
+pub found_some : (P : Line → Type 0) (lines : List Line) (a : ℕ) → All P lines → IfSome (line_at lines a) P
+found_some P [] a all = tt
+found_some P (line ∷ lines) a all = elim (cases_Bool (eqb line.address a)) [
+  | inl here ↦ rw here (all 0 line (omega arith))
+  | inr other ↦ rw other (found_some P lines a (λ i d within. all (suc i) d (omega arith)))
 ]
 
 or_none : {X : Type 0} (x y : Option X) → or_else x y ≡ None → (x ≡ None) × (y ≡ None)

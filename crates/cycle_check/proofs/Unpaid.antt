@@ -1,5 +1,5 @@
 -- A turn that a STEP doesn't pay for: no BASEs close it with that STEP.
-use Rattle.std.proofs.Common.{◌≡◌, ℕ, zero, suc, ◌+◌, ◌*◌, ◌-◌, ◌/◌, ◌%◌, ◌<◌, ◌≤◌, ◌⊎◌, ◌&&◌, if◌then◌else◌, Bool, true, false, true≢false, eqb, leb, Option, Some, None, List, [], ◌∷◌, length, refl, sym, ap, subst, ◌∙◌, arith, inl, inr, take, le_refl}
+use Rattle.std.proofs.Common.{◌≡◌, ℕ, zero, suc, ◌+◌, ◌*◌, ◌-◌, ◌/◌, ◌%◌, ◌<◌, ◌≤◌, ◌⊎◌, ◌&&◌, if◌then◌else◌, Bool, true, false, true≢false, eqb, leb, Option, Some, None, List, length, refl, sym, ap, subst, ◌∙◌, arith, inl, inr, take, le_refl}
 use Rattle.std.specs.Prelude.{option_map, slice_index}
 use Rattle.std.specs.List.{sum_by}
 use Rattle.std.specs.Option.{option_map_or}
@@ -24,7 +24,7 @@ use Rattle.cycle_check.specs.Closed.{admits, byte_at, counter_after, fits_x, hol
 use Rattle.cycle_check.specs.Obstacles.{AreClosed, IsOneOf, IsShort, LeadsBy, LeadsUnpaid, says_some, takes_at, takes_counter, takes_one, turn_takes, with_cost, with_costs}
 use Rattle.cycle_check.proofs.Below.{left_rises, passes_at}
 use Rattle.cycle_check.proofs.Drawing.{found_all}
-use Rattle.cycle_check.proofs.Lookup.{address_of-found}
+use Rattle.cycle_check.proofs.Lookup.{address_of-found, line_at-map}
 
 -- ---- a counter that falls by no more than is taken
 
@@ -160,15 +160,8 @@ module _ (rom : List ℕ) (bound : Bound) where
     abbrev costs : Line → Line
     costs = with_cost base step
 
-    line_at-costs : (lines : List Line) (a : ℕ) → line_at (with_costs base step lines) a ≡ option_map costs (line_at lines a)
-    line_at-costs [] a = refl
-    line_at-costs (line ∷ lines) a = elim (cases_Bool (eqb line.address a)) [
-      | inl same ↦ rw same refl
-      | inr other ↦ rw other (line_at-costs lines a)
-    ]
-
     there_costs : (a : ℕ) (line : Line) → line_at lines a ≡ Some line → line_at (with_costs base step lines) a ≡ Some (costs line)
-    there_costs a line there = line_at-costs lines a ∙ ap (option_map costs) there
+    there_costs a line there = line_at-map costs (λ l. refl) lines a ∙ ap (option_map costs) there
 
     goes_costs : (line : Line) (behind : Line) (to : ℕ) (way : Way) → line_at lines line.address ≡ Some line → line_at lines to ≡ Some behind
         → IsOneOf rom bound line.address way → way.to ≡ Some to → lets_through line.fact way.when ≡ true → step line.address ≡ step behind.address

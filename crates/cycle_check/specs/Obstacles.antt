@@ -37,10 +37,17 @@ says_some fact = false
 abbrev pub takes_counter : Bound → Line → Instruction → Bool
 takes_counter bound line i = takes_one i.op.kind && i.op.n == bound.k && says_some line.fact
 
--- three cycles for each address of the ROM; and, with this STEP, what ways cost at most that come to no address twice: 2,048 * (3 + 255 * 6,144) is less
+-- what a fact says that D is, is a byte
+abbrev pub IsOfByte : Fact → Type 0
+IsOfByte (says.Is byte) = byte < 256
+IsOfByte fact = Unit {0}
+
+-- three cycles for each address of the ROM
 abbrev pub level_step : ℕ
 level_step = 6_144
 
+-- Where BASEs close lines with this STEP, some do so whose gaps are no wider than what an instruction asks for, 3 + 255 * 6,144 cycles: the greatest of them is
+-- no more than 2,048 times that, which is less.
 abbrev pub most_straight : ℕ
 most_straight = 4_000_000_000
 
@@ -199,11 +206,13 @@ module _ (rom : List ℕ) (bound : Bound) where
   IsShown line_of line = (way : Way) (to : ℕ) (behind : Line) → line_of to ≡ Some behind → IsWay rom bound line.address way to
       → lets_through line.fact way.when ≡ true → is_shown bound.k (instruction_at rom line.address) line.fact way.when 0 behind.fact ≡ true
 
-  -- Lines of exactly the addresses that are reached. Each way shows the X and the fact of the line to which it leads, and the entry's line asks for none.
+  -- Lines of exactly the addresses that are reached. Each way shows the X and the fact of the line to which it leads, and the entry's line asks for none. What a
+  -- line says of D is a byte.
   pub record AreReached (lines : List Line) : Type 0 where
     pub all : (address : ℕ) (given : Option ℕ) → Reached rom bound (line_at lines) address given → HasLine (line_at lines) address given
     pub only : All (IsReached (line_at lines)) lines
     pub shown : All (IsShown (line_at lines)) lines
+    pub bytes : All (λ line. IsOfByte line.fact) lines
     pub entered : (line : Line) → line_at lines bound.entry ≡ Some line → line.fact ≡ says.Any
 
   -- the lines, without what they say of the cycles that are left
@@ -360,11 +369,12 @@ module _ (rom : List ℕ) (bound : Bound) where
   abbrev pub AreAllowed : List Line → Type 0
   AreAllowed lines = All (λ line. is_allowed bound line (instruction_at rom line.address) ≡ true) lines
 
-  -- All lines have a STEP that pays a turn through all 2,048 addresses, and a BASE of theirs passes what ways can cost that come to no address twice: so there
-  -- is a turn for which no STEP pays.
+  -- No BASEs close the lines, though all have a STEP that pays a turn through all 2,048 addresses: at the address a BASE would have to pass the greatest that
+  -- lines with this STEP need.
   pub record IsGrown (lines : List Line) (address : ℕ) : Type 0 where
     pub level : All (λ line. line.step ≡ level_step) lines
     pub more : Any (λ line. (line.address ≡ address) × (most_straight < line.base)) lines
+    pub stays_open : (base : ℕ → ℕ) → AreClosed (with_bases base lines) → ⊥
 
   -- ---- Most
 

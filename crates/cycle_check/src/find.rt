@@ -6,7 +6,7 @@ ghost use Rattle.cycle_check.specs.Forward.{AreDrawn, AreMade, AreWhole, IsTrueO
 ghost use Rattle.cycle_check.specs.Closed.{fault_in, left, line_at};
 ghost use Rattle.cycle_check.specs.Found.{HasLimit, IsCertificate, IsFound, IsFoundFrom, IsTimingFault, leaves_rom, left_at_entry, timing_text};
 ghost use Rattle.cycle_check.specs.declared.grammar.Line.{Line};
-ghost use Rattle.cycle_check.specs.Obstacles.{AreAllowed, AreClosed, AreLowSteps, HasLowBase, IsBarred, IsMost};
+ghost use Rattle.cycle_check.specs.Obstacles.{AreAllowed, AreClosed, AreLowSteps, HasLowBase, IsBarred, IsMost, IsOfByte};
 ghost use Rattle.cycle_check.specs.Reading.{AreRising, IsRead};
 
 use crate::certificate::{Draft, read_certificate};
@@ -150,7 +150,8 @@ fn lines_of(
 
 // A line with its STEP by a graph.
 fn with_step(graph: &Graph, line: Line) -> Line
-    ensures { result ≡ record line { step = result.step } }
+    ensures same { result ≡ record line { step = result.step } }
+    ensures byte { IsOfByte result.fact }
 {
     match graph.node(line.address.saturating_sub(0x8000)) {
         Some(node) => Line {

@@ -11,7 +11,7 @@ loop-place-preserved c = elim c.match-drawn_at.branch [
   | in-Some+in_ok-push w ↦ rw (w.lines-is, w.in_ok-push.ensures.items)
       (listed_more c.args.forward.now.rom.now c.args.forward.now.bound c.args.places.now c.loop-place.place c.loop-place.lines.items
       c.loop-place.invariant c.requires.drawn w.in-Some.line w.with_step.result c.loop-place-test.true
-      (sym c.drawn_at.ensures ∙ w.in-Some.is) w.with_step.ensures)
+      (sym c.drawn_at.ensures ∙ w.in-Some.is) w.with_step.ensures.same w.with_step.ensures.byte)
   | in_default w ↦ rw w.lines-is
       (listed_skip c.args.forward.now.rom.now c.args.forward.now.bound c.args.places.now c.loop-place.place c.loop-place.lines.items
       c.loop-place.invariant (sym c.drawn_at.ensures ∙ w.in_default.is))

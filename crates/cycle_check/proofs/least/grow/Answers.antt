@@ -1,6 +1,7 @@
 use Rattle.std.proofs.Common.{arith, refl}
 use Rattle.cycle_check.proofs.Leveled.{raised_smaller, raised_steps}
 use Rattle.cycle_check.proofs.Raised.{raised_there}
+use Rattle.cycle_check.proofs.Gaps.{is_grown}
 use Rattle.cycle_check.proofs.least.grow.Goals as goal
 
 pub loop-place-init : goal.loop-place-init
@@ -21,10 +22,8 @@ pub returns-then-line-gt-MOST_STRAIGHT-clause-grown :
     goal.returns-then-line-gt-MOST_STRAIGHT-clause-grown
 returns-then-line-gt-MOST_STRAIGHT-clause-grown c =
     let here = rw c.as_slice-in-loop-place.ensures.value at c.in-Some.ensures in
-    record {
-      level = c.loop-place.invariant.1;
-      more = (c.in-Some.place, c.in-Some.line, here.within, here.there c.in-Some.line, (refl, c.if-line-gt-MOST_STRAIGHT.true));
-    }
+    is_grown c.args.rom.now c.args.bound.now c.loop-place.lines.items c.loop-place.invariant.0 c.in-Some.line.address c.loop-place.invariant.1
+    (c.in-Some.place, c.in-Some.line, here.within, here.there c.in-Some.line, (refl, c.if-line-gt-MOST_STRAIGHT.true))
 
 pub raised-base-requires-clause-rising : goal.raised-base-requires-clause-rising
 raised-base-requires-clause-rising c = rw c.as_slice-in-Some.ensures.value c.loop-place.invariant.0.rising
