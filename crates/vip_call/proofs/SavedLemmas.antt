@@ -1,18 +1,22 @@
 -- What was saved of a run goes on as that run, by the law of runs that are joined and by that of the debugger's commands behind a dispatch point.
-use Rattle.std.proofs.Common.{◌≡◌, ℕ, ◌≤◌, List, [], ◌∷◌, ◌++◌, Ok, Option, Some, None, false, append_assoc, append-nil, refl, sym, ap, ap₂, subst, subst₂, ◌∙◌, arith}
-use Rattle.std.specs.Prelude.{if◌then◌else◌}
+use Rattle.std.proofs.Common.{◌≡◌, ℕ, ◌≤◌, Bool, true, List, [], ◌∷◌, ◌++◌, Ok, Option, Some, None, false, append_assoc, append-nil, refl, sym, ap, ap₂, subst, subst₂, ◌∙◌, arith}
+use Rattle.std.specs.List.{flat_map}
+use Rattle.std.specs.Prelude.{if◌then◌else◌, option_and_then}
 use Rattle.std.specs.Option.{option_map}
 use Rattle.std.proofs.lemmas.Grind.{flat_map-append}
 use Rattle.machine.specs.Board.{Machine}
+use Rattle.machine.specs.Memory.{mapped_address}
 use Rattle.machine.specs.Keys.{Event as KeyEvent}
 use Rattle.chip8_lang.specs.declared.view.Edition.{Edition}
 use Rattle.chip8_lang.specs.Events.{Event, events_behind, is_dispatch, is_stop}
 use Rattle.chip8_lang.specs.Events.Event.{Picture, Dispatch, Stopped}
+use Rattle.chip8_lang.specs.View.{view_at}
 use Rattle.chip8_image.specs.Interpreters.{interpreter_of}
 use Rattle.rom_board.specs.Saved.{AgreeBefore, Joins, IsGoneOnWith, SavedJoins}
 use Rattle.rom_board.proofs.Joined.{file_dispatches}
 use Rattle.rom_board.proofs.Passed.{last_after, last_of_events}
 use Rattle.vip_byte.specs.Number.{most_cycles}
+use Rattle.vip_byte.specs.Text.{newline}
 use Rattle.vip_relation.specs.Follows.{Fits, last_dispatch}
 use Rattle.vip_relation.specs.State.{Start, VipState, begun, machine_of, state_after}
 use Rattle.vip_relation.specs.State.Start.{Reset, Saved}
@@ -22,8 +26,9 @@ use Rattle.vip_show.specs.Written.{file_of}
 use Rattle.vip_show.proofs.OneAnswer.{one_edition}
 use Rattle.vip_text.specs.Endings.Ending.{AtLimit}
 use Rattle.vip_text.specs.StateFile.{shown, IsAccepted}
-use Rattle.asm_core.specs.Origins.{no_origins}
-use Rattle.vip_text.specs.Traces.{record_text}
+use Rattle.asm_core.specs.Origins.{Origins, gave, line_told, line_with, no_origins, origin_at, source_end}
+use Rattle.asm_core.specs.declared.table.Cell.{Cell}
+use Rattle.vip_text.specs.Traces.{opcode_bytes, record_text}
 use Rattle.vip_text.specs.declared.trace.TraceColumns.{TraceColumns}
 use Rattle.vip_debug.specs.Answers.{moves_until, pieces, place_after, at_start, written}
 use Rattle.vip_debug.specs.declared.looks.Looks.{Looks}
@@ -67,15 +72,44 @@ saves_shown law e s fits script limit few file saved = let x = law e s fits scri
 
 -- ---- lists
 
-lines_joined : (e : Edition) (columns : TraceColumns) (xs ys : List Event)
-    → trace_lines no_origins e columns (xs ++ ys) ≡ trace_lines no_origins e columns xs ++ trace_lines no_origins e columns ys
+lines_joined : (origins : Origins) (e : Edition) (columns : TraceColumns) (xs ys : List Event)
+    → trace_lines origins e columns (xs ++ ys) ≡ trace_lines origins e columns xs ++ trace_lines origins e columns ys
 unfolding trace_lines
-lines_joined e columns xs ys = flat_map-append (trace_piece no_origins e columns) xs ys
+lines_joined origins e columns xs ys = flat_map-append (trace_piece origins e columns) xs ys
 
 -- the lines are the same without the screen behind them
-lines_alike : (e : Edition) (columns : TraceColumns) (es : List Event) → trace_lines no_origins e (record columns { screen = false }) es ≡ trace_lines no_origins e columns es
+lines_alike : (origins : Origins) (e : Edition) (columns : TraceColumns) (es : List Event)
+    → trace_lines origins e (record columns { screen = false }) es ≡ trace_lines origins e columns es
 unfolding trace_lines record_text
-lines_alike e columns es = refl
+lines_alike origins e columns es = refl
+
+-- no line ends in one of a source where no texts are told
+no_line : (texts : List (List ℕ)) (cell : Option Cell) → texts ≡ [] → option_and_then (line_with texts) cell ≡ None
+no_line texts None untold = refl
+no_line texts (Some cell) untold = rw untold refl
+
+no_end : (origins : Origins) → origins.texts ≡ [] → (latch : Bool) (address : ℕ) (bytes : List ℕ) → source_end origins latch address bytes ≡ []
+no_end origins untold latch address [] = refl
+no_end origins untold latch address (byte ∷ bytes) = by_test (gave origins latch address (byte ∷ bytes))
+  where
+    by_test : (is : Bool)
+        → line_told (if is then option_and_then (line_with origins.texts) (origin_at origins (mapped_address latch address)) else None) ≡ []
+    by_test true = ap line_told (no_line origins.texts (origin_at origins (mapped_address latch address)) untold)
+    by_test false = refl
+
+-- so the lines are those of no source
+lines_untold : (origins : Origins) → origins.texts ≡ [] → (e : Edition) (columns : TraceColumns) (es : List Event)
+    → trace_lines origins e columns es ≡ trace_lines no_origins e columns es
+unfolding trace_lines
+lines_untold origins untold e columns es = ap (λ piece. flat_map piece es) (λ i event. pieces event i)
+  where
+    pieces : (event : Event) → trace_piece origins e columns event ≡ trace_piece no_origins e columns event
+    pieces (Dispatch b) =
+        let view = view_at e b in
+        ap (λ end. (record_text columns view ++ end ++ newline) ∷ [])
+        (no_end origins untold false view.pc (opcode_bytes view.opcode) ∙ sym (no_end no_origins refl false view.pc (opcode_bytes view.opcode)))
+    pieces (Picture m) = refl
+    pieces (Stopped b) = refl
 
 last_after_both : (last : Option Machine) (xs ys : List Event) → last_after last (xs ++ ys) ≡ last_after (last_after last xs) ys
 unfolding last_after
@@ -146,37 +180,39 @@ module _ (joins : SavedJoins) (commands_behind : GoesOnBehind) where
 
     goes_on : GoesOn e s file other later
     goes_on = record {
-      lines = λ columns. lines columns;
-      pictures =
+      lines = lines;
+      pictures = λ origins.
           ap₂ (ran later)
           (same_pictures e s other later ∙ j.pictures
           ∙ ap₂ (λ a b. a ++ b) (sym (same_pictures e s other t)) (sym (same_pictures e (Saved file) other later)))
           j.ending;
-      state = ap₂ (λ ending file. ran_with later ending (saved_pieces file)) j.ending j.file;
+      state = λ origins. ap₂ (λ ending file. ran_with later ending (saved_pieces file)) j.ending j.file;
       answers = answers;
     }
       where
         lines :
-            (columns : TraceColumns)
+            (origins : Origins) (columns : TraceColumns)
+            → origins.texts ≡ []
             → ran later
-            (trace_lines no_origins e columns (events_shown e s other later)
+            (trace_lines origins e columns (events_shown e s other later)
             ++ (if columns.screen then screen_piece e (last_dispatch (events_in e s other later)) else []))
             (run_ending e s other later)
             ≡ ran later
-            ((trace_lines no_origins e (record columns { screen = false }) (events_shown e s other t) ++ [])
+            ((trace_lines origins e (record columns { screen = false }) (events_shown e s other t) ++ [])
             ++ (trace_lines no_origins e columns (events_shown e (Saved file) other later)
             ++ (if columns.screen then screen_piece e (last_dispatch (events_in e (Saved file) other later)) else [])))
             (run_ending e (Saved file) other later)
-        lines columns =
+        lines origins columns untold =
             let own : List Event = events_behind (interpreter_of e) other (shown file) later in
             ap₂ (ran later)
             (ap₂ (λ ls last. ls ++ (if columns.screen then screen_piece e last else []))
-            (ap (trace_lines no_origins e columns) (shown_joined e s other t later own j.events)
-            ∙ lines_joined e columns (events_shown e s other t) own
-            ∙ ap (λ ls. ls ++ trace_lines no_origins e columns own)
-            (sym (append-nil (trace_lines no_origins e (record columns { screen = false }) (events_shown e s other t)) ∙ lines_alike e columns (events_shown e s other t))))
+            (ap (trace_lines origins e columns) (shown_joined e s other t later own j.events)
+            ∙ lines_joined origins e columns (events_shown e s other t) own
+            ∙ ap₂ (λ ls rest. ls ++ rest)
+            (sym (append-nil (trace_lines origins e (record columns { screen = false }) (events_shown e s other t)) ∙ lines_alike origins e columns (events_shown e s other t)))
+            (lines_untold origins untold e columns own))
             same_last
-            ∙ append_assoc (trace_lines no_origins e (record columns { screen = false }) (events_shown e s other t) ++ []) (trace_lines no_origins e columns own)
+            ∙ append_assoc (trace_lines origins e (record columns { screen = false }) (events_shown e s other t) ++ []) (trace_lines no_origins e columns own)
             (if columns.screen then screen_piece e (last_dispatch (events_in e (Saved file) other later)) else []))
             j.ending
 

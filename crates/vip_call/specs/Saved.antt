@@ -1,7 +1,7 @@
 -- What was saved of a run goes on as that run.
 use Rattle.std.specs.Prelude.{◌≡◌, ◌≤◌, ℕ, false, List, [], ◌∷◌, ◌++◌, Option, Some, Ok}
 use Rattle.machine.specs.Keys.{Event as KeyEvent}
-use Rattle.asm_core.specs.Origins.{no_origins}
+use Rattle.asm_core.specs.Origins.{Origins, no_origins}
 use Rattle.chip8_lang.specs.declared.view.Edition.{Edition}
 use Rattle.rom_board.specs.Saved.{AgreeBefore}
 use Rattle.vip_relation.specs.Follows.{last_dispatch}
@@ -16,7 +16,6 @@ use Rattle.vip_tools.specs.Judged.Verdict.{Given}
 use Rattle.vip_words.specs.Spoken.{Spoken}
 use Rattle.vip_words.specs.declared.debug_commands.Command.TheVariants.{Runs}
 use Rattle.vip_words.specs.declared.debug_commands.Running.TheVariants.{To}
-use Rattle.vip_words.specs.declared.request.PlainShow.{PlainShow}
 use Rattle.vip_words.specs.declared.request.PlainShow.TheVariants.{Pictures, State, Trace}
 use Rattle.vip_words.specs.declared.request.Request.TheVariants.{Run}
 use Rattle.vip_words.specs.declared.request.Show.{Show}
@@ -31,20 +30,20 @@ abbrev pub IsJoined : (first rest whole : Outcome) → Type 0
 IsJoined (Given first) (Given rest) whole = whole ≡ Shown (first.pieces ++ rest.pieces) rest.status rest.report
 IsJoined _ _ whole = ⊥
 
--- what is shown of a run of no source, of which a saved state knows nothing
-abbrev pub told : PlainShow → Edition → Start → List KeyEvent → ℕ → Outcome
-told = shown_by no_origins
-
 -- Under a script up to a limit one go of the run from a start is what comes up to the cycle of a file's point, and then what comes of the run from the
--- file: its lines, with the screen, and its pictures; the file that is saved of it is the same; and the debugger answers behind `to` that cycle as it does
--- from the file.
+-- file, which knows of no source: its lines, with the screen, where none of them shows a line of a source, and its pictures; the file that is saved of it is
+-- the same; and the debugger answers behind `to` that cycle as it does from the file.
 pub record GoesOn (e : Edition) (s : Start) (file : List ℕ) (script : List KeyEvent) (limit : ℕ) : Type 0 where
   pub lines :
-      (columns : TraceColumns)
-      → IsJoined (told (Trace (record columns { screen = false })) e s script (shown file).cycle) (told (Trace columns) e (Saved file) script limit)
-      (told (Trace columns) e s script limit)
-  pub pictures : IsJoined (told Pictures e s script (shown file).cycle) (told Pictures e (Saved file) script limit) (told Pictures e s script limit)
-  pub state : told State e s script limit ≡ told State e (Saved file) script limit
+      (origins : Origins) (columns : TraceColumns)
+      → origins.texts ≡ []
+      → IsJoined (shown_by origins (Trace (record columns { screen = false })) e s script (shown file).cycle)
+      (shown_by no_origins (Trace columns) e (Saved file) script limit) (shown_by origins (Trace columns) e s script limit)
+  pub pictures :
+      (origins : Origins)
+      → IsJoined (shown_by origins Pictures e s script (shown file).cycle) (shown_by no_origins Pictures e (Saved file) script limit)
+      (shown_by origins Pictures e s script limit)
+  pub state : (origins : Origins) → shown_by origins State e s script limit ≡ shown_by no_origins State e (Saved file) script limit
   pub answers :
       (looks : Looks) (echo : Option (List ℕ)) (commands : List Spoken)
       → let to : Spoken = record { command = Runs (To (shown file).cycle); echo = echo } in
