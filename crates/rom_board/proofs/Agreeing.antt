@@ -29,7 +29,7 @@ module _ (rom : List ℕ) (held other : ℕ → Keys) where
         cycle = b.cycle + cycles_of (opcode_of rom b);
       }) (sym (agree (b.cycle + 1) b.key (omega (arith, two_cycles (opcode_of rom b)))))
 
-  same_states : (n : ℕ) (b : Machine) → ((c key : ℕ) → c < (after_moves rom held b n).cycle → held c key ≡ other c key) → (k : ℕ) → k ≤ n
+  pub same_states : (n : ℕ) (b : Machine) → ((c key : ℕ) → c < (after_moves rom held b n).cycle → held c key ≡ other c key) → (k : ℕ) → k ≤ n
       → after_moves rom other b k ≡ after_moves rom held b k
   same_states n b agree zero order = refl
   same_states n b agree (suc k) order =

@@ -19,11 +19,11 @@ use Rattle.vip_relation.specs.State.{Start, machine_of}
 use Rattle.vip_relation.specs.State.Start.{Reset, Saved}
 use Rattle.rom_board.specs.Laws.{FileMayStart}
 
-module _ (e : Edition) (f : List ℕ) (bytes : (k : ℕ) → slice_index f k < 256) (a : IsAccepted e f) where
+module _ (f : List ℕ) (bytes : (k : ℕ) → slice_index f k < 256) where
   fits_at : (k : ℕ) → FitsWord (word_at f k)
   fits_at k = record { hi = bytes k; lo = bytes (k + 1) }
 
-  fits_bank : FitsBank (bank_in f)
+  pub fits_bank : FitsBank (bank_in f)
   unfolding bank_in
   fits_bank =
       record {
@@ -45,12 +45,13 @@ module _ (e : Edition) (f : List ℕ) (bytes : (k : ℕ) → slice_index f k < 2
         rf = fits_at 44;
       }
 
+module _ (e : Edition) (f : List ℕ) (bytes : (k : ℕ) → slice_index f k < 256) (a : IsAccepted e f) where
   fits : FitsMachine (shown f)
   fits =
       record {
         regs =
             record {
-              r = fits_bank;
+              r = fits_bank f bytes;
               d = bytes 46;
               df = omega arith;
               p = omega arith;

@@ -9,7 +9,7 @@ pub mod Points
 pub mod RamSizes
 pub mod Files
 pub mod Saving
-mod ProgramStates
+pub mod ProgramStates
 pub mod OneAnswer
 pub mod OpcodeLemmas
 pub mod Profiling
