@@ -18,7 +18,7 @@ use Rattle.vip_words.specs.declared.request.BoardShow.{BoardShow}
 use Rattle.vip_words.specs.declared.request.ProgramShow.{ProgramShow}
 use Rattle.vip_words.specs.declared.request.ProgramShow.TheVariants.{Board}
 use Rattle.vip_words.specs.declared.request.Request.{Request}
-use Rattle.vip_words.specs.declared.request.Request.TheVariants.{Run}
+use Rattle.vip_words.specs.declared.request.Request.TheVariants.{Program, Resumed, Run}
 use Rattle.vip_words.specs.declared.request.Show.{Show}
 use Rattle.vip_words.specs.declared.table.Verb.{Verb}
 use Rattle.vip_words.specs.declared.table.Verb.TheVariants as verb
@@ -27,6 +27,8 @@ use Rattle.vip_tools.specs.Files.{shape_of}
 -- the limit of a run, where one is asked for
 abbrev pub IsLimited : Request (Unit {0}) → Type 0
 IsLimited (Run run) = run.limit ≤ most_cycles
+IsLimited (Program run) = run.limit ≤ most_cycles
+IsLimited (Resumed run) = run.limit ≤ most_cycles
 IsLimited _ = Unit {0}
 
 -- ---- parts of what is asked for
@@ -78,7 +80,7 @@ run_limited : (file cycles : Word) (given : Given) (shown : Show Word) → Limit
 run_limited file cycles given shown = behind _ (start_by file given) (λ s. of_cycles _ cycles (λ n few. few))
 
 program_limited : (file cycles : Word) (given : Given) (shown : ProgramShow Word) → Limited (program_by file cycles given shown)
-program_limited file cycles given shown = either (is_mixed given) None _ tt (of_each _ (cycles_of cycles) (λ n. tt))
+program_limited file cycles given shown = either (is_mixed given) None _ tt (of_cycles _ cycles (λ n few. few))
 
 either_limited : (file cycles : Word) (given : Given) (shown : Show Word) (program : ProgramShow Word) → Limited (either_by file cycles given shown program)
 either_limited file cycles given shown program =
@@ -88,7 +90,7 @@ either_limited file cycles given shown program =
 any_limited : (file cycles : Word) (given : Given) (shown : Show Word) (board : BoardShow Word) → Limited (any_by file cycles given shown board)
 any_limited file cycles given shown board =
     either (lacks_source given) None _ tt
-    (either (is_program given && given.has State) _ _ (either (is_mixed_state given) None _ tt (of_each _ (cycles_of cycles) (λ n. tt)))
+    (either (is_program given && given.has State) _ _ (either (is_mixed_state given) None _ tt (of_cycles _ cycles (λ n few. few)))
     (either_limited file cycles given shown (Board board)))
 
 trace_limited : (words : List Word) (given : Given) → Limited (trace_by words given)

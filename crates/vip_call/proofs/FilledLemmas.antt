@@ -7,7 +7,6 @@ use Rattle.vip_words.specs.Request.{Asked, map_board_show, map_code, map_program
 use Rattle.vip_words.specs.Rules.{Word}
 use Rattle.vip_words.specs.declared.request.Code.{Code}
 use Rattle.vip_words.specs.declared.request.Code.TheVariants as code
-use Rattle.vip_words.specs.declared.request.Memory.{Memory}
 use Rattle.vip_words.specs.declared.request.BoardShow.{BoardShow}
 use Rattle.vip_words.specs.declared.request.BoardShow.TheVariants as board
 use Rattle.vip_words.specs.declared.request.ProgramShow.{ProgramShow}
@@ -18,99 +17,108 @@ use Rattle.vip_words.specs.declared.request.Show.{Show}
 use Rattle.vip_words.specs.declared.request.Show.TheVariants as show
 use Rattle.vip_words.specs.declared.request.Start.{Start}
 use Rattle.vip_words.specs.declared.request.Start.TheVariants as start
-use Rattle.vip_tools.specs.Files.{HasAll, Loaded, Needed, board_show_files, code_file, files_of, game_kind, most_text, needed, program_code, program_kind, program_show_files, program_size, program_state_file, script_files, shape_of, show_files, start_files, with_file}
+use Rattle.vip_tools.specs.Files.{HasAll, IsRight, Loaded, Needed, board_show_files, code_file, files_of, game_kind, most_text, needed, program_code, program_kind, program_show_files, program_size, program_state_file, script_files, shape_of, show_files, start_files, with_file}
 use Rattle.vip_tools.specs.declared.refusal.Kind.{Kind}
+use Rattle.vip_tools.specs.declared.refusal.Kind.TheVariants.{Certificate}
 use Rattle.chip8_lang.specs.State.{memory_size}
 
--- ---- the most bytes of the files
+-- ---- the kinds of the files, and their most bytes
 
-abbrev mosts : {N : Type 0} → List (Needed N) → List ℕ
-mosts ns = map (λ n. n.most) ns
+abbrev bound_of : {N : Type 0} → Needed N → Kind × ℕ
+bound_of n = (n.kind, n.most)
+
+abbrev bounds : {N : Type 0} → List (Needed N) → List (Kind × ℕ)
+bounds ns = map bound_of ns
 
 -- they don't hang on the files themselves
 module _ {A B : Type 0} (f : A → B) where
-  code_most : (kind : Kind) (most : ℕ) (code : Code A) → (code_file kind most (map_code f code)).most ≡ (code_file kind most code).most
-  code_most kind most (code.Bytes file) = refl
-  code_most kind most (code.Source file told) = refl
+  code_bounds : (kind : Kind) (most : ℕ) (code : Code A) → bounds (code_file kind most (map_code f code) ∷ []) ≡ bounds (code_file kind most code ∷ [])
+  code_bounds kind most (code.Bytes file) = refl
+  code_bounds kind most (code.Source file told) = refl
 
-  start_mosts : (s : Start A) → mosts (start_files (map_start f s)) ≡ mosts (start_files s)
-  start_mosts (start.Game code edition) = ap (λ most. most ∷ []) (code_most (game_kind edition) (memory_size edition) code)
-  start_mosts (start.State file) = refl
-  start_mosts (start.Made made) = refl
+  start_bounds : (s : Start A) → bounds (start_files (map_start f s)) ≡ bounds (start_files s)
+  start_bounds (start.Game code edition) = code_bounds (game_kind edition) (memory_size edition) code
+  start_bounds (start.State file) = refl
+  start_bounds (start.Made made) = refl
 
-  show_mosts : (s : Show A) → mosts (show_files (map_show f s)) ≡ mosts (show_files s)
-  show_mosts (show.Commands file echo columns) = refl
-  show_mosts (show.Plain shown) = refl
+  show_bounds : (s : Show A) → bounds (show_files (map_show f s)) ≡ bounds (show_files s)
+  show_bounds (show.Commands file echo columns) = refl
+  show_bounds (show.Plain shown) = refl
 
-  script_mosts : (k : Option A) → mosts (script_files (option_map f k)) ≡ mosts (script_files k)
-  script_mosts None = refl
-  script_mosts (Some file) = refl
+  script_bounds : (k : Option A) → bounds (script_files (option_map f k)) ≡ bounds (script_files k)
+  script_bounds None = refl
+  script_bounds (Some file) = refl
 
-  program_mosts : (m : Memory) (code : Code A) → mosts (program_code m (map_code f code) ∷ []) ≡ mosts (program_code m code ∷ [])
-  program_mosts m code = ap (λ most. most ∷ []) (code_most (program_kind m) (program_size m) code)
+  board_show_bounds : (s : BoardShow A) → bounds (board_show_files (map_board_show f s)) ≡ bounds (board_show_files s)
+  board_show_bounds (board.Commands file echo) = refl
+  board_show_bounds board.State = refl
 
-  board_show_mosts : (s : BoardShow A) → mosts (board_show_files (map_board_show f s)) ≡ mosts (board_show_files s)
-  board_show_mosts (board.Commands file echo) = refl
-  board_show_mosts board.State = refl
+  program_show_bounds : (s : ProgramShow A) → bounds (program_show_files (map_program_show f s)) ≡ bounds (program_show_files s)
+  program_show_bounds program.Trace = refl
+  program_show_bounds program.Pictures = refl
+  program_show_bounds program.Profile = refl
+  program_show_bounds (program.Board shown) = board_show_bounds shown
 
-  program_show_mosts : (s : ProgramShow A) → mosts (program_show_files (map_program_show f s)) ≡ mosts (program_show_files s)
-  program_show_mosts program.Trace = refl
-  program_show_mosts program.Pictures = refl
-  program_show_mosts program.Profile = refl
-  program_show_mosts (program.Board shown) = board_show_mosts shown
+both_bounds : {N : Type 0} (xs ys : List (Needed N)) → bounds (xs ++ ys) ≡ bounds xs ++ bounds ys
+both_bounds xs ys = map-append bound_of xs ys
 
-both_mosts : {N : Type 0} (xs ys : List (Needed N)) → mosts (xs ++ ys) ≡ mosts xs ++ mosts ys
-both_mosts xs ys = map-append (λ n. n.most) xs ys
+three_bounds :
+    {A B : Type 0} (xs bs cs : List (Needed A)) (ds es fs : List (Needed B)) → bounds xs ≡ bounds ds → bounds bs ≡ bounds es → bounds cs ≡ bounds fs
+    → bounds (xs ++ (bs ++ cs)) ≡ bounds (ds ++ (es ++ fs))
+three_bounds xs bs cs ds es fs a b c =
+    both_bounds xs (bs ++ cs) ∙ ap (λ l. bounds xs ++ l) (both_bounds bs cs) ∙ ap₂ (λ x y. x ++ y) a (ap₂ (λ x y. x ++ y) b c)
+    ∙ sym (both_bounds ds (es ++ fs) ∙ ap (λ l. bounds ds ++ l) (both_bounds es fs))
 
-three_mosts :
-    {A B : Type 0} (xs bs cs : List (Needed A)) (ds es fs : List (Needed B)) → mosts xs ≡ mosts ds → mosts bs ≡ mosts es → mosts cs ≡ mosts fs
-    → mosts (xs ++ (bs ++ cs)) ≡ mosts (ds ++ (es ++ fs))
-three_mosts xs bs cs ds es fs a b c =
-    both_mosts xs (bs ++ cs) ∙ ap (λ l. mosts xs ++ l) (both_mosts bs cs) ∙ ap₂ (λ x y. x ++ y) a (ap₂ (λ x y. x ++ y) b c)
-    ∙ sym (both_mosts ds (es ++ fs) ∙ ap (λ l. mosts ds ++ l) (both_mosts es fs))
-
-same_mosts : {A B : Type 0} (f : A → B) (r : Request A) → mosts (needed (map_request f r)) ≡ mosts (needed r)
-same_mosts f (request.Run run) =
-    three_mosts (start_files (map_start f run.start)) (show_files (map_show f run.show)) (script_files (option_map f run.keys))
+same_bounds : {A B : Type 0} (f : A → B) (r : Request A) → bounds (needed (map_request f r)) ≡ bounds (needed r)
+same_bounds f (request.Run run) =
+    three_bounds (start_files (map_start f run.start)) (show_files (map_show f run.show)) (script_files (option_map f run.keys))
     (start_files run.start) (show_files run.show) (script_files run.keys)
-    (start_mosts f run.start) (show_mosts f run.show) (script_mosts f run.keys)
-same_mosts f (request.Program run) =
-    three_mosts (program_code run.memory (map_code f run.code) ∷ []) (program_show_files (map_program_show f run.show)) (script_files (option_map f run.keys))
+    (start_bounds f run.start) (show_bounds f run.show) (script_bounds f run.keys)
+same_bounds f (request.Program run) =
+    three_bounds (program_code run.memory (map_code f run.code) ∷ []) (program_show_files (map_program_show f run.show)) (script_files (option_map f run.keys))
     (program_code run.memory run.code ∷ []) (program_show_files run.show) (script_files run.keys)
-    (program_mosts f run.memory run.code) (program_show_mosts f run.show) (script_mosts f run.keys)
-same_mosts f (request.Resumed run) =
-    three_mosts (program_state_file (f run.state) ∷ []) (board_show_files (map_board_show f run.show)) (script_files (option_map f run.keys))
+    (code_bounds f (program_kind run.memory) (program_size run.memory) run.code) (program_show_bounds f run.show) (script_bounds f run.keys)
+same_bounds f (request.Resumed run) =
+    three_bounds (program_state_file (f run.state) ∷ []) (board_show_files (map_board_show f run.show)) (script_files (option_map f run.keys))
     (program_state_file run.state ∷ []) (board_show_files run.show) (script_files run.keys)
-    refl (board_show_mosts f run.show) (script_mosts f run.keys)
-same_mosts f (request.Safe game certificate edition) = ap (λ most. most ∷ most_text ∷ []) (code_most f (game_kind edition) (memory_size edition) game)
-same_mosts f (request.Certify game edition) = ap (λ most. most ∷ []) (code_most f (game_kind edition) (memory_size edition) game)
-same_mosts f _ = refl
+    refl (board_show_bounds f run.show) (script_bounds f run.keys)
+same_bounds f (request.Safe game certificate edition) =
+    ap (λ bound. bound ++ (Certificate, most_text) ∷ []) (code_bounds f (game_kind edition) (memory_size edition) game)
+same_bounds f (request.Certify game edition) = code_bounds f (game_kind edition) (memory_size edition) game
+same_bounds f _ = refl
 
--- ---- the files are small enough, and of bytes
+-- ---- the files are small enough, of bytes, and right
 
 pub record IsGiven (n : Needed (List ℕ)) : Type 0 where
   pub fits : length n.file ≤ n.most
   pub bytes : (i : ℕ) → slice_index n.file i < 256
+  pub right : IsRight n.kind n.file
 
 abbrev pub AreGiven : List (Needed (List ℕ)) → Type 0
 AreGiven [] = Unit {0}
 AreGiven (n ∷ ns) = IsGiven n × AreGiven ns
 
 all_given :
-    (old : FilesMeaning) (names : List (Needed Word)) (ns : List (Needed (List ℕ))) → mosts names ≡ mosts ns → HasAll old names (files_of ns) → AreGiven ns
+    (old : FilesMeaning) (names : List (Needed Word)) (ns : List (Needed (List ℕ))) → bounds names ≡ bounds ns → HasAll old names (files_of ns) → AreGiven ns
 all_given old [] [] same read = tt
 all_given old [] (n ∷ ns) same read = cc
 all_given old (m ∷ ms) [] same read = cc
 all_given old (m ∷ ms) (n ∷ ns) same read =
-    let most : m.most ≡ n.most = cc in
-    let others : mosts ms ≡ mosts ns = cc in
-    (record { fits = subst (λ k. length n.file ≤ k) most read.0.fits; bytes = read.0.bytes }, all_given old ms ns others read.1)
+    let one : bound_of m ≡ bound_of n = cc in
+    let others : bounds ms ≡ bounds ns = cc in (
+      record {
+        fits = subst (λ bound. length n.file ≤ bound.1) one read.0.fits;
+        bytes = read.0.bytes;
+        right = subst (λ bound. IsRight bound.0 n.file) one read.0.judged;
+      },
+      all_given old ms ns others read.1,
+    )
 
 pub are_given : (old : FilesMeaning) (asked : Asked) (loaded : Loaded) → shape_of asked ≡ shape_of loaded → HasAll old (needed asked) (files_of (needed loaded))
     → AreGiven (needed loaded)
 are_given old asked loaded shape read =
     all_given old (needed asked) (needed loaded)
-    (sym (same_mosts (λ _. tt) asked) ∙ ap (λ r. mosts (needed r)) shape ∙ same_mosts (λ _. tt) loaded) read
+    (sym (same_bounds (λ _. tt) asked) ∙ ap (λ r. bounds (needed r)) shape ∙ same_bounds (λ _. tt) loaded) read
 
 -- ---- the request, by its shape and its files
 

@@ -12,6 +12,9 @@ mod TimedLemmas
 mod TranscribedLemmas
 mod Outcomes
 mod TopLemmas
+mod SourceBytes
+mod BoardLemmas
+mod BoardStarts
 mod SavedLemmas
 mod ResumedLemmas
 mod MadeGames

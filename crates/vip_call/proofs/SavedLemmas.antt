@@ -30,6 +30,7 @@ use Rattle.asm_core.specs.Origins.{Origins, gave, line_told, line_with, no_origi
 use Rattle.asm_core.specs.declared.table.Cell.{Cell}
 use Rattle.vip_text.specs.Traces.{opcode_bytes, record_text}
 use Rattle.vip_text.specs.declared.trace.TraceColumns.{TraceColumns}
+use Rattle.vip_program.specs.Program.{resumed, started}
 use Rattle.vip_debug.specs.Answers.{moves_until, pieces, place_after, at_start, written}
 use Rattle.vip_debug.specs.declared.looks.Looks.{Looks}
 use Rattle.vip_debug.specs.Fold.{echoed}
@@ -37,6 +38,9 @@ use Rattle.vip_debug.specs.Behind.{AnswersAs, GoesOnBehind}
 use Rattle.vip_words.specs.Spoken.{Spoken}
 use Rattle.vip_words.specs.declared.debug_commands.Command.TheVariants.{Runs}
 use Rattle.vip_words.specs.declared.debug_commands.Running.TheVariants.{To}
+use Rattle.vip_words.specs.declared.request.Memory.{Memory}
+use Rattle.vip_words.specs.declared.request.ProgramShow.{ProgramShow}
+use Rattle.vip_words.specs.declared.request.ProgramShow.TheVariants.{Board}
 use Rattle.vip_words.specs.declared.request.Request.TheVariants as request
 use Rattle.vip_words.specs.declared.request.Show.{Show}
 use Rattle.vip_words.specs.declared.request.PlainShow.TheVariants.{State}
@@ -49,8 +53,11 @@ use Rattle.vip_tools.specs.Status.{end_status}
 use Rattle.vip_tools.proofs.JudgedLemmas.{behind-each, same_value}
 use Rattle.vip_tools.specs.Code.{Known, nothing_known}
 use Rattle.vip_verbs.specs.Outcome.{known_in, HasOutcome, IsSavedIn, ShowComes, ending_where, events_shown, limit_from, ran, ran_with, run_ending, saved_pieces, stopped_by}
+use Rattle.vip_verbs.specs.Programs.{ProgramShowComes, memory_in}
 use Rattle.vip_show.specs.Runs.{events_in, run_of}
-use Rattle.vip_call.specs.Saved.{Continues, GoesOn, GoesOnAsRun, IsSaved, SavesOne}
+use Rattle.vip_call.specs.Saved.{Continues, GoesOn, GoesOnAsRun, IsProgramSaved, IsSaved, SavesOne}
+use Rattle.vip_call.proofs.BoardLemmas.{board_saved}
+use Rattle.vip_call.proofs.BoardStarts.{FitsImage, image_fits, resumed_fits, started_fits}
 use Rattle.vip_call.specs.Top.{Call, ContinuesSaved}
 use Rattle.vip_relation.proofs.Beginning.{begins-running}
 use Rattle.vip_words.specs.declared.request.Start.TheVariants as beginning
@@ -309,11 +316,28 @@ module _ (joins : SavedJoins) (commands_behind : GoesOnBehind) where
       saves_one e s fits keys limit few output x.value x.gives (saved_file e (events_in e s x.value limit)) refl x.here.here
   is_saved known e s fits keys limit few _ output x = tt
 
+  is_program_saved :
+      (known : Known) (memory : Memory) (image : List ℕ × List ℕ) → FitsImage image → (keys : Option (List ℕ)) (limit : ℕ) → limit ≤ most_cycles
+      → (output : Output) (shown : ProgramShow (List ℕ)) → ProgramShowComes known memory image.0 image.1 keys limit shown (Given output)
+      → IsProgramSaved (started (memory_in memory) image.0 image.1) keys limit shown output.pieces
+  is_program_saved known memory image fits keys limit few output (Board shown) comes =
+      board_saved (started (memory_in memory) image.0 image.1 []) (started_fits memory image.0 image.1 fits.rom fits.ram) keys limit few output known shown comes
+  is_program_saved known memory image fits keys limit few output _ comes = tt
+
   shows : (loaded : Loaded) (output : Output) → AreGiven (needed loaded) → IsLimited (shape_of loaded) → HasOutcome loaded (Given output) → Continues loaded output.pieces
   shows (request.Run run) output given few comes =
       begun_so output (λ e s. ShowComes (known_in run.start) e s run.keys run.limit run.show) (λ e s. IsSaved e s run.keys run.limit run.show output.pieces)
       (λ e s fits comes. is_saved _ e s fits run.keys run.limit few run.show output comes)
       run.start (show_files run.show ++ script_files run.keys) given comes
+  shows (request.Program run) output given few comes =
+      let fits = image_fits run.memory run.code given.0 comes.value comes.gives in
+      record {
+        value = comes.value;
+        gives = comes.gives;
+        here = is_program_saved _ run.memory comes.value fits run.keys run.limit few output run.show comes.here;
+      }
+  shows (request.Resumed run) output given few comes =
+      board_saved (resumed run.state []) (resumed_fits run.state given.0.bytes given.0.right) run.keys run.limit few output nothing_known run.show comes
   shows _ output given few comes = tt
 
   pub continues_saved : (call : Call) → ContinuesSaved call

@@ -375,8 +375,8 @@ DecidesCertify call =
 
 -- ---- what a state says that was saved
 
--- Where the words and the contents come to the file of a saved state, it shows the board's state at the run's last dispatch point, and whoever begins there
--- goes on with the run, under the same keys before that point, up to every later limit, and however it is shown.
+-- Where the words and the contents come to the file of a saved state, it shows the board's state at the last dispatch point of a game's run, or at the end of a
+-- program's, and whoever begins there goes on with the run, under the same keys before that, up to every later limit, and however it is shown.
 abbrev pub ContinuesSaved : Call → Type 0
 ContinuesSaved call =
     (asked : Asked) (loaded : Loaded) (pieces : List (List ℕ)) (status : Status) (report : List ℕ)
@@ -432,7 +432,7 @@ pub record Promises (status : Status) (call : Call) : Type 0 where
   pub certified : ProvesCertified call
   -- where `certify` says that a game has no certificate, there is none
   pub decided : DecidesCertify call
-  -- a saved state is that of the run's last dispatch point, and what goes on from it is the rest of the run
+  -- a saved state is that of the last dispatch point of a game's run, or of the end of a program's, and what goes on from it is the rest of the run
   pub saved : ContinuesSaved call
   -- where a source is checked, what is told agrees with what `asm` makes of it
   pub checked : ChecksSources call
