@@ -22,11 +22,13 @@ use Rattle.cycle_check.specs.declared.table.Way.{Way}
 use Rattle.cycle_check.specs.declared.table.Ways.{Ways}
 use Rattle.cycle_check.specs.Table.{x_after}
 use Rattle.cycle_check.specs.Closed.{fits_x, instruction_at, is_shown, lets_through, line_at, ways_from}
-use Rattle.cycle_check.specs.Forward.{AreDrawn, AreHeld, AreHeldFrom, AreMade, AreWhole, IsDrawn, IsEnd, IsHeld, IsLess, IsWayHeld, common, drawn_at, fact_weight, weight}
-use Rattle.cycle_check.specs.Obstacles.{AreReached, FitsReached, HasLine, IsOfByte, IsOneOf, IsReached, IsWay, Reached, without_costs}
+use Rattle.cycle_check.specs.Forward.{AreDrawn, AreFull, AreHeld, AreHeldFrom, AreMade, AreOfEntry, AreWhole, IsDrawn, IsDue, IsDueBy, IsEnd, IsFirst, IsHeld, IsLess, IsWayHeld, common, drawn_at, fact_weight, said_at, weight}
+use Rattle.cycle_check.specs.Obstacles.{AreReached, FitsReached, HasLine, IsOfByte, IsOneOf, IsReached, IsWay, Reached, asks_d, without_costs}
 use Rattle.cycle_check.specs.Obstacles.Reached.{Reaches, Starts}
 use Rattle.cycle_check.proofs.Leading.{fits-common, fits-none}
 use Rattle.cycle_check.specs.Reading.{AreRising, AreStrict}
+use Rattle.cycle_check.proofs.Saying.{AreChanged, said_from, unsaid_more}
+use Rattle.cycle_check.proofs.Saying.Changed.{Same}
 use Rattle.cycle_check.proofs.Lookup.{address_of-found, found_some, line_at-none}
 use Rattle.cycle_check.proofs.Raised.{none_least}
 
@@ -69,14 +71,6 @@ weight_low line = each_of line.x line.fact
 
 abbrev x_weight : Option ℕ → ℕ
 x_weight x = option_map_or (λ x. 1) x 0
-
-common_low : (x given : Option ℕ) → x_weight (common x given) ≤ x_weight x
-common_low None given = omega arith
-common_low (Some x) None = omega arith
-common_low (Some x) (Some given) = elim (cases_Bool (eqb x given)) [
-  | inl same ↦ rw same (omega arith)
-  | inr other ↦ rw other (omega arith)
-]
 
 common_lost : (x given : Option ℕ) → fits_x x given ≡ false → x_weight (common x given) < x_weight x
 common_lost None given lost = absurd (true≢false (sym (fits-none given) ∙ lost))
@@ -140,7 +134,7 @@ module _ (rom : List ℕ) (bound : Bound) where
 
     -- ---- a way from a line to a place
 
-    module _ (drawn : AreDrawn rom bound places) (from : ℕ) (line : Line) (way : Way) (place : ℕ) (there : get_or places from None ≡ Some line)
+    module _ (wants : ℕ → Bool) (drawn : AreDrawn rom bound places) (from : ℕ) (line : Line) (way : Way) (place : ℕ) (there : get_or places from None ≡ Some line)
         (is_way : IsWay rom bound line.address way (0x8000 + place)) (opens : lets_through line.fact way.when ≡ true) (within : place < 2048) where
       abbrev kind : Kind
       kind = (instruction_at rom line.address).op.kind
@@ -159,10 +153,13 @@ module _ (rom : List ℕ) (bound : Bound) where
           fits-all kind n asked line.x (Reached rom bound line_of line.address) own.reached.reached.0 own.reached.reached.1
           (λ given led. all (x_after kind n given) (leaves given led)) (own.reached.x asked)
 
+      due : (l : Line) → IsDueBy rom bound (wants (0x8000 + place)) line way (get_or places place None) l → IsDue rom bound places wants place l
+      due l why = record { from = from; before = line; there = there; way = way; is = is_way; through = opens; why = why }
+
       -- a line where there is none
-      pub first_end : (fact : Fact) → get_or places place None ≡ None
-          → IsEnd rom bound places place (record { address = 0x8000 + place; x = x_after kind n line.x; base = 0; step = 0; fact = fact })
-      first_end fact none = record {
+      pub first_end : (fact : Fact) → get_or places place None ≡ None → IsFirst bound.k (instruction_at rom line.address) (wants (0x8000 + place)) line.fact way.when fact
+          → IsEnd rom bound places wants place (record { address = 0x8000 + place; x = x_after kind n line.x; base = 0; step = 0; fact = fact })
+      first_end fact none first = record {
         within = rw drawn.count within;
         drawn = record {
           of = refl;
@@ -171,6 +168,7 @@ module _ (rom : List ℕ) (bound : Bound) where
         };
         less = rw none tt;
         weighs = rw none (weight_low (record { address = 0x8000 + place; x = x_after kind n line.x; base = 0; step = 0; fact = fact }));
+        due = due (record { address = 0x8000 + place; x = x_after kind n line.x; base = 0; step = 0; fact = fact }) (rw none first);
       }
 
       module _ (behind : Line) (met : get_or places place None ≡ Some behind) where
@@ -180,36 +178,49 @@ module _ (rom : List ℕ) (bound : Bound) where
         pub held : shown ≡ true → fits_x behind.x (x_after kind n line.x) ≡ true → IsHeld rom bound places line way (0x8000 + place)
         held is fits_it = record { behind = behind; there = there_at place (0x8000 + place) behind refl met; x = fits_it; fact = is }
 
+        abbrev less_line : Option ℕ → Fact → Line
+        less_line x fact = record behind { x = x; fact = fact }
+
         -- a line that asks for less
-        less_end : (fact : Fact) → (fact ≡ behind.fact) ⊎ (fact ≡ says.Any)
-            → x_weight (common behind.x (x_after kind n line.x)) + fact_weight fact < x_weight behind.x + fact_weight behind.fact
-            → IsEnd rom bound places place
-            (record { address = behind.address; x = common behind.x (x_after kind n line.x); base = 0; step = 0; fact = fact })
-        less_end fact how lower =
-            let there = drawn.each place behind met in
+        less_end : (x : Option ℕ) (fact : Fact) → ((x ≡ behind.x) ⊎ (x ≡ common behind.x (x_after kind n line.x))) → (fact ≡ behind.fact) ⊎ (fact ≡ says.Any)
+            → x_weight x + fact_weight fact < x_weight behind.x + fact_weight behind.fact
+            → IsDueBy rom bound (wants (0x8000 + place)) line way (Some behind) (less_line x fact) → IsEnd rom bound places wants place (less_line x fact)
+        less_end x fact x_is how lower why =
+            let own_there = drawn.each place behind met in
             record {
               within = rw drawn.count within;
               drawn = record {
-                of = there.of;
+                of = own_there.of;
                 reached = record {
-                  reached = there.reached.reached;
-                  x = λ asked all. fits-common asked behind.x (x_after kind n line.x) (there.reached.x asked all) (fits asked (subst (λ a. FitsReached rom bound line_of a asked) there.of all));
+                  reached = own_there.reached.reached;
+                  x = λ asked all. elim x_is [
+                    | inl same ↦ rw same (own_there.reached.x asked all)
+                    | inr joined ↦
+                        rw joined (fits-common asked behind.x (x_after kind n line.x) (own_there.reached.x asked all)
+                        (fits asked (subst (λ a. FitsReached rom bound line_of a asked) own_there.of all)))
+                  ];
                 };
-                bare = refl;
+                bare = ap (λ (l : Line). record l { x = x; fact = fact }) own_there.bare;
               };
-              less = rw met (common_none behind.x (x_after kind n line.x), how);
+              less = rw met (
+                (λ none. elim x_is [
+                  | inl same ↦ same ∙ none
+                  | inr joined ↦ joined ∙ common_none behind.x (x_after kind n line.x) none
+                ]),
+                how,
+              );
               weighs = rw met lower;
+              due = due (less_line x fact) (rw met why);
             }
 
-        pub shown_end : shown ≡ true → fits_x behind.x (x_after kind n line.x) ≡ false
-            → IsEnd rom bound places place
-            (record { address = behind.address; x = common behind.x (x_after kind n line.x); base = 0; step = 0; fact = behind.fact })
-        shown_end is lost = less_end behind.fact (inl refl) (omega (arith, common_lost behind.x (x_after kind n line.x) lost))
+        pub unfit_end : fits_x behind.x (x_after kind n line.x) ≡ false
+            → IsEnd rom bound places wants place (less_line (common behind.x (x_after kind n line.x)) behind.fact)
+        unfit_end lost =
+            less_end (common behind.x (x_after kind n line.x)) behind.fact (inr refl) (inl refl)
+            (omega (arith, common_lost behind.x (x_after kind n line.x) lost)) (inr (lost, refl))
 
-        pub lost_end : shown ≡ false
-            → IsEnd rom bound places place
-            (record { address = behind.address; x = common behind.x (x_after kind n line.x); base = 0; step = 0; fact = says.Any })
-        lost_end lost = less_end says.Any (inr refl) (omega (arith, common_low behind.x (x_after kind n line.x), heavy behind.fact lost))
+        pub lost_end : shown ≡ false → IsEnd rom bound places wants place (less_line behind.x says.Any)
+        lost_end lost = less_end behind.x says.Any (inl refl) (inr refl) (omega (arith, heavy behind.fact lost)) (inl (lost, refl))
           where
             heavy : (fact : Fact) → is_shown bound.k (instruction_at rom line.address) line.fact way.when 0 fact ≡ false → 0 < fact_weight fact
             heavy says.Any lost = absurd (true≢false lost)
@@ -219,63 +230,78 @@ module _ (rom : List ℕ) (bound : Bound) where
 
     -- ---- a line is set
 
-    module _ (place : ℕ) (line : Line) (drawn : AreDrawn rom bound places) (end : IsEnd rom bound places place line) where
+    -- it lets through all that the one before did, and that of the entry asks for nothing
+    pub record IsPut (place : ℕ) (line : Line) : Type 0 where
+      pub within : place < length places
+      pub drawn : IsDrawn rom bound places place line
+      pub more : (old : Line) → get_or places place None ≡ Some old → (when : When) → lets_through old.fact when ≡ true → lets_through line.fact when ≡ true
+      pub entry : (old : Line) → get_or places place None ≡ Some old → 0x8000 + place ≡ bound.entry → old.x ≡ None → old.fact ≡ says.Any
+          → (line.x ≡ None) × (line.fact ≡ says.Any)
+
+    module _ (place : ℕ) (line : Line) (drawn : AreDrawn rom bound places) (put : IsPut place line) where
       abbrev after : List (Option Line)
       after = slice_set places place (Some line)
 
-      set_there : (i : ℕ) → i ≡ place → get_or after i None ≡ Some line
-      set_there i is = get_or-set_at places place i (Some line) None is end.within
+      pub set_there : (i : ℕ) → i ≡ place → get_or after i None ≡ Some line
+      set_there i is = get_or-set_at places place i (Some line) None is put.within
 
-      set_other : (i : ℕ) → (i ≡ place → ⊥) → get_or after i None ≡ get_or places i None
+      pub set_other : (i : ℕ) → (i ≡ place → ⊥) → get_or after i None ≡ get_or places i None
       set_other i other = get_or-set_other places place i (Some line) None other
-
-      lets_more : (old : Line) → IsLess rom bound places (Some old) line → (when : When) → lets_through old.fact when ≡ true
-          → lets_through line.fact when ≡ true
-      lets_more old less when opens = elim less.1 [
-        | inl same ↦ rw same opens
-        | inr any ↦ rw any refl
-      ]
 
       set_more : More line_of (drawn_at after)
       set_more address old inside there = elim (cases_eq (address - 0x8000) place) [
-        | inl here ↦ (
-          line,
-          set_there (address - 0x8000) here,
-          lets_more old (subst (λ (o : Option Line). IsLess rom bound places o line) (rw here at there) end.less),
-        )
+        | inl here ↦ (line, set_there (address - 0x8000) here, put.more old (rw here at there))
         | inr other ↦ (old, set_other (address - 0x8000) other ∙ there, λ when opens. opens)
       ]
 
       drawn_more : (i : ℕ) (l : Line) → IsDrawn rom bound places i l → IsDrawn rom bound after i l
       drawn_more i l h = record { of = h.of; reached = line_more line_of (drawn_at after) set_more l h.reached; bare = h.bare }
 
-      pub set_drawn : AreDrawn rom bound after
-      set_drawn = record {
+      pub put_drawn : AreDrawn rom bound after
+      put_drawn = record {
         count = rw length-set drawn.count;
         each = λ i l there. elim (cases_eq i place) [
-          | inl here ↦ rw (here, ← same_Some line l (sym (set_there i here) ∙ there)) (drawn_more place line end.drawn)
+          | inl here ↦ rw (here, ← same_Some line l (sym (set_there i here) ∙ there)) (drawn_more place line put.drawn)
           | inr other ↦ drawn_more i l (drawn.each i l (sym (set_other i other) ∙ there))
         ];
         entry = λ inside.
             let first = drawn.entry inside in
             elim (cases_eq (bound.entry - 0x8000) place) [
               | inl here ↦
-                  let less : IsLess rom bound places (Some first.0) line =
-                  subst (λ (o : Option Line). IsLess rom bound places o line) (rw here at first.1) end.less in
-                  (line, set_there (bound.entry - 0x8000) here, less.0 first.2, any_of first.0 first.3 less.1)
+                  let asks = put.entry first.0 (rw here at first.1) (omega (arith, here, inside.0)) first.2 first.3 in
+                  (line, set_there (bound.entry - 0x8000) here, asks.0, asks.1)
               | inr other ↦ (first.0, set_other (bound.entry - 0x8000) other ∙ first.1, first.2, first.3)
             ];
       }
-        where
-          any_of : (old : Line) → old.fact ≡ says.Any → (line.fact ≡ old.fact) ⊎ (line.fact ≡ says.Any) → line.fact ≡ says.Any
-          any_of old any how = elim how [
-            | inl same ↦ same ∙ any
-            | inr is ↦ is
-          ]
+
+    -- where less is asked for
+    pub end_put : (wants : ℕ → Bool) (place : ℕ) (line : Line) → IsEnd rom bound places wants place line → IsPut place line
+    end_put wants place line end = record {
+      within = end.within;
+      drawn = end.drawn;
+      more = λ old there when opens. elim (less old there).1 [
+        | inl same ↦ rw same opens
+        | inr any ↦ rw any refl
+      ];
+      entry = λ old there here none any. (
+        (less old there).0 none,
+        elim (less old there).1 [
+          | inl same ↦ same ∙ any
+          | inr is ↦ is
+        ],
+      );
+    }
+      where
+        less : (old : Line) → get_or places place None ≡ Some old → IsLess rom bound places (Some old) line
+        less old there = subst (λ (o : Option Line). IsLess rom bound places o line) there end.less
+
+    pub set_drawn : (wants : ℕ → Bool) (place : ℕ) (line : Line) → AreDrawn rom bound places → IsEnd rom bound places wants place line
+        → AreDrawn rom bound (slice_set places place (Some line))
+    set_drawn wants place line drawn end = put_drawn place line drawn (end_put wants place line end)
 
     -- ---- no line is to be set
 
-    module _ (drawn : AreDrawn rom bound places) (whole : AreWhole rom bound places) where
+    module _ (drawn : AreDrawn rom bound places) (whole : AreWhole rom bound places) (full : AreFull rom bound places) where
       own_place : (address : ℕ) (line : Line) → Inside address → line_of address ≡ Some line → line.address ≡ address
       own_place address line inside there = (drawn.each (address - 0x8000) line there).of ∙ omega (arith, inside)
 
@@ -297,6 +323,17 @@ module _ (rom : List ℕ) (bound : Bound) where
           subst (λ a. fits_x held.behind.x (x_after (instruction_at rom a).op.kind (instruction_at rom a).op.n line.x) ≡ true)
           (own_place address line inside there) held.x in
           (held.behind, held.there, fits-after i.op.kind i.op.n held.behind.x line.x x asked fits)
+
+      -- the line of an address is one of a place
+      said_place : (address : ℕ) (line : Line) → said_at places address ≡ Some line → Inside address × (line_of address ≡ Some line)
+      said_place address line there =
+          let found = said_from places address line there in
+          elim (cases_lt address 0x8800) [
+            | inl low ↦ ((found.0, low), found.1)
+            | inr past ↦
+                let none : line_of address ≡ None = get_or_past places (address - 0x8000) None (rw drawn.count (omega (arith, past))) in
+                cc
+          ]
 
       -- the same lines in a list
       module _ (lines : List Line) (same : (address : ℕ) → Inside address → line_at lines address ≡ line_of address)
@@ -331,8 +368,17 @@ module _ (rom : List ℕ) (bound : Bound) where
               let first = drawn.entry inside in
               let is : first.0 ≡ line = same_Some first.0 line (sym first.1 ∙ sym (same bound.entry inside) ∙ found) in
               subst (λ (l : Line). l.fact ≡ says.Any) is first.3;
+          full = λ i d within any fact says_it.
+              let line = get_or lines i d in
+              unsaid_more rom bound (asks_d rom bound) (said_at places) (line_at lines) fact (said_same fact) line.address
+              (full (line.address - 0x8000) line (listed i d within).1 any fact says_it);
         }
           where
+            said_same : (fact : Fact) → AreChanged rom bound (asks_d rom bound) (said_at places) (line_at lines) fact
+            said_same fact address line there =
+                let found = said_place address line there in
+                (line, same address found.0 ∙ found.1, Same refl)
+
             inside_of : (line : Line) → line_at lines bound.entry ≡ Some line → Inside bound.entry
             inside_of line found =
                 rw (← address_of-found lines bound.entry line found)
@@ -441,11 +487,11 @@ module _ (rom : List ℕ) (bound : Bound) (places : List (Option Line)) where
             (subst IsOfByte (ap (λ (l : Line). l.fact) is) byte));
       }
 
-  pub listed_all : (lines : List Line) → AreDrawn rom bound places → AreWhole rom bound places → AreListed 2048 lines → AreMade rom bound lines
-  listed_all lines drawn whole h = record {
+  pub listed_all : (lines : List Line) → AreDrawn rom bound places → AreWhole rom bound places → AreFull rom bound places → AreListed 2048 lines → AreMade rom bound lines
+  listed_all lines drawn whole full h = record {
     rising = h.rising;
     strict = h.strict;
-    of_ways = reached_lines rom bound places drawn whole (map without_costs lines) (λ address inside. h.same address inside.0 (omega (arith, inside.1))) h.listed h.bytes;
+    of_ways = reached_lines rom bound places drawn whole full (map without_costs lines) (λ address inside. h.same address inside.0 (omega (arith, inside.1))) h.listed h.bytes;
     least = none_least rom bound lines h.none;
   }
 
@@ -464,6 +510,9 @@ module _ (rom : List ℕ) (bound : Bound) (places : List (Option Line)) (size : 
     each = λ place line there. absurd (nothing_at place line there);
     entry = λ inside. absurd (outside inside);
   }
+
+  pub none_alone : AreOfEntry bound places
+  none_alone place line there = absurd (nothing_at place line there)
 
   abbrev entry_line : Line
   entry_line = record { address = bound.entry; x = None; base = 0; step = 0; fact = says.Any }
@@ -490,6 +539,15 @@ module _ (rom : List ℕ) (bound : Bound) (places : List (Option Line)) (size : 
 
       inside : (0x8000 ≤ bound.entry) × (bound.entry < 0x8800)
       inside = (omega (arith, is), omega (arith, is, low))
+
+  pub first_alone : (place : ℕ) → place < 2048 → AreOfEntry bound (slice_set places place (Some entry_line))
+  first_alone place low i line there = elim (cases_eq i place) [
+    | inl here ↦
+        let within : place < length places = rw none (rw length-replicate (omega (arith, full, low))) in
+        let first_is : entry_line ≡ line = same_Some entry_line line (sym (get_or-set_at places place i (Some entry_line) None here within) ∙ there) in
+        (ap (λ (l : Line). l.address) (sym first_is), ap (λ (l : Line). l.fact) (sym first_is))
+    | inr other ↦ absurd (nothing_at i line (sym (get_or-set_other places place i (Some entry_line) None other) ∙ there))
+  ]
 
 -- ---- the ways of a line
 
@@ -546,7 +604,7 @@ module _ (rom : List ℕ) (bound : Bound) (places : List (Option Line)) where
   ]
 
 -- setting a line leaves less to be lost
-pub lighter : (rom : List ℕ) (bound : Bound) (places : List (Option Line)) (place : ℕ) (line : Line) → IsEnd rom bound places place line
+pub lighter : (rom : List ℕ) (bound : Bound) (places : List (Option Line)) (wants : ℕ → Bool) (place : ℕ) (line : Line) → IsEnd rom bound places wants place line
     → sum_by weight (slice_set places place (Some line)) < sum_by weight places
-lighter rom bound places place line end =
+lighter rom bound places wants place line end =
     omega (arith, sum_by-set weight places place (Some line) None end.within, end.weighs)

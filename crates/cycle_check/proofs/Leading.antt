@@ -98,13 +98,13 @@ abbrev pub held_by : Fact → Option ℕ
 held_by (says.Is byte) = Some byte
 held_by fact = None
 
-stays : (kind : Kind) (byte : ℕ) (fact : Fact) → stays_loaded kind byte fact ≡ true → held_by fact ≡ Some byte
+pub stays : (kind : Kind) (byte : ℕ) (fact : Fact) → stays_loaded kind byte fact ≡ true → held_by fact ≡ Some byte
 stays kind byte says.Any shown = absurd (true≢false (sym shown))
 stays kind byte says.Copy shown = absurd (true≢false (sym shown))
 stays kind byte says.NonZero shown = absurd (true≢false (sym shown))
 stays kind byte (says.Is held) shown = ap Some (eqb-true held byte (and_parts (eqb held byte) (not (assigns_d kind)) shown).0)
 
-loaded : (kind : Kind) (next byte : ℕ) (fact : Fact) → is_loaded kind (eqb next byte) byte fact ≡ true → byte_after kind next (held_by fact) ≡ Some byte
+pub loaded : (kind : Kind) (next byte : ℕ) (fact : Fact) → is_loaded kind (eqb next byte) byte fact ≡ true → byte_after kind next (held_by fact) ≡ Some byte
 loaded Ldi next byte fact shown = elim (cases_Bool (eqb next byte)) [
   | inl same ↦ ap Some (eqb-true next byte same)
   | inr other ↦ absurd (never fact (rw other at shown))

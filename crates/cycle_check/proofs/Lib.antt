@@ -1,8 +1,10 @@
 pub mod Answered
+pub mod Asking
 pub mod Below
 pub mod Departing
 pub mod Drawing
 pub mod Effects
+pub mod Filling
 pub mod Growth
 pub mod Lookup
 pub mod Numbers
@@ -10,6 +12,7 @@ pub mod Shown
 pub mod Soundness
 pub mod Leading
 pub mod Raised
+pub mod Saying
 pub mod Appends
 mod Tried
 pub mod Leveled

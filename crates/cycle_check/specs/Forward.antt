@@ -1,7 +1,6 @@
 -- What a search holds of the addresses to which an entry leads.
-use Rattle.std.specs.Prelude.{◌≡◌, ℕ, ◌+◌, ◌-◌, ◌<◌, ◌≤◌, ◌⊎◌, ◌==◌, ◌&&◌, ◌||◌, if◌then◌else◌, Bool, true, false, List, length, slice_index_or, Option, Some, None}
+use Rattle.std.specs.Prelude.{◌≡◌, ℕ, ◌+◌, ◌-◌, ◌<◌, ◌≤◌, ◌⊎◌, ◌==◌, ◌&&◌, ◌||◌, if◌then◌else◌, nat_le, Bool, true, false, List, length, slice_index_or, Option, Some, None}
 use Rattle.std.specs.Option.{option_map_or}
-use Rattle.std.specs.List.{All}
 use Rattle.machine.specs.declared.Kind.{Kind}
 use Rattle.machine.specs.declared.Kind.TheVariants.{Ldi}
 use Rattle.cycle_check.specs.declared.forward.Forward.{Forward}
@@ -15,7 +14,7 @@ use Rattle.cycle_check.specs.declared.table.When.{When}
 use Rattle.cycle_check.specs.declared.table.Way.{Way}
 use Rattle.cycle_check.specs.Table.{x_after}
 use Rattle.cycle_check.specs.Closed.{fits_x, instruction_at, is_closed, is_shown, lets_through}
-use Rattle.cycle_check.specs.Obstacles.{AreLeast, AreOfWays, FitsAll, IsLed, IsLost, IsOneOf, IsReached, IsWay, level_step, without_costs}
+use Rattle.cycle_check.specs.Obstacles.{AreLeast, AreOfWays, FitsAll, IsFull, IsLed, IsLost, IsOneOf, IsReached, IsWay, Unsaid, asks_d, is_of_d, level_step, without_costs}
 use Rattle.cycle_check.specs.Reading.{AreRising, AreStrict}
 
 -- ---- what is known
@@ -94,6 +93,10 @@ pub record StaysTrue (old new : Forward) : Type 0 where
 abbrev pub drawn_at : List (Option Line) → ℕ → Option Line
 drawn_at places address = slice_index_or places (address - 0x8000) None
 
+-- the line of an address, which has none if it isn't one of the ROM
+abbrev pub said_at : List (Option Line) → ℕ → Option Line
+said_at places address = if nat_le 0x8000 address then drawn_at places address else None
+
 -- how much more may be lost at a place: where it has no line yet, X and the fact of its line, and the line
 abbrev pub fact_weight : Fact → ℕ
 fact_weight says.Any = 0
@@ -102,6 +105,26 @@ fact_weight fact = 1
 abbrev pub weight : Option Line → ℕ
 weight None = 3
 weight (Some line) = option_map_or (λ x. 1) line.x 0 + fact_weight line.fact
+
+-- the line of an entry alone
+abbrev pub AreOfEntry : Bound → List (Option Line) → Type 0
+AreOfEntry bound places =
+    (place : ℕ) (line : Line) → slice_index_or places place None ≡ Some line → (line.address ≡ bound.entry) × (line.fact ≡ says.Any)
+
+-- what the first line at the end of a way says: a byte, if that is wanted and shown by the line before
+abbrev pub IsFirst : ℕ → Instruction → Bool → Fact → When → Fact → Type 0
+IsFirst k i wanted fact when says.Any = (byte : ℕ) → wanted ≡ true → is_shown k i fact when 0 (says.Is byte) ≡ false
+IsFirst k i wanted fact when (says.Is byte) = is_shown k i fact when 0 (says.Is byte) ≡ true
+IsFirst k i wanted fact when first = ⊥
+
+module _ (rom : List ℕ) (bound : Bound) where
+  -- Why a line is to be at the end of a way: it is the first one there, and says the byte that the way shows; or the way doesn't show the fact of the one that
+  -- is there, or its X.
+  abbrev pub IsDueBy : Bool → Line → Way → Option Line → Line → Type 0
+  IsDueBy wanted before way None line = IsFirst bound.k (instruction_at rom before.address) wanted before.fact way.when line.fact
+  IsDueBy wanted before way (Some old) line =
+      ((is_shown bound.k (instruction_at rom before.address) before.fact way.when 0 old.fact ≡ false) × (line ≡ record old { fact = says.Any }))
+      ⊎ ((fits_x old.x (x_after (instruction_at rom before.address).op.kind (instruction_at rom before.address).op.n before.x) ≡ false) × (line.fact ≡ old.fact))
 
 module _ (rom : List ℕ) (bound : Bound) (places : List (Option Line)) where
   -- the line at a place is that of an address that is reached
@@ -143,12 +166,77 @@ module _ (rom : List ℕ) (bound : Bound) (places : List (Option Line)) where
   IsLess None line = Unit {0}
   IsLess (Some old) line = (old.x ≡ None → line.x ≡ None) × ((line.fact ≡ old.fact) ⊎ (line.fact ≡ says.Any))
 
+  pub record IsDue (wants : ℕ → Bool) (place : ℕ) (line : Line) : Type 0 where
+    pub from : ℕ
+    pub before : Line
+    pub there : slice_index_or places from None ≡ Some before
+    pub way : Way
+    pub is : IsWay rom bound before.address way (0x8000 + place)
+    pub through : lets_through before.fact way.when ≡ true
+    pub why : IsDueBy rom bound (wants (0x8000 + place)) before way (slice_index_or places place None) line
+
   -- a line that is to be at a place, where less is asked for then
-  pub record IsEnd (place : ℕ) (line : Line) : Type 0 where
+  pub record IsEnd (wants : ℕ → Bool) (place : ℕ) (line : Line) : Type 0 where
     pub within : place < length places
     pub drawn : IsDrawn place line
     pub less : IsLess (slice_index_or places place None) line
     pub weighs : weight (Some line) < weight (slice_index_or places place None)
+    pub due : IsDue wants place line
+
+  -- ---- the facts that they say
+
+  -- no line that says nothing can say a fact, where lines say what D is at some addresses alone
+  abbrev pub IsFilled : (ℕ → Bool) → Fact → Type 0
+  IsFilled wants fact =
+      (place : ℕ) (line : Line) → slice_index_or places place None ≡ Some line → line.fact ≡ says.Any
+      → Unsaid rom bound wants (said_at places) fact line.address
+
+  abbrev pub AreFilled : (ℕ → Bool) → Type 0
+  AreFilled wants = (fact : Fact) → (fact ≡ says.Any → ⊥) → IsFilled wants fact
+
+  -- all lines that say nothing are such addresses, where D is asked for
+  abbrev pub AreWanted : (ℕ → Bool) → Type 0
+  AreWanted wants = (place : ℕ) (line : Line) → slice_index_or places place None ≡ Some line → line.fact ≡ says.Any → wants line.address ≡ false
+      → asks_d rom bound line.address ≡ false
+
+  -- each line says as much as it can
+  abbrev pub AreFull : Type 0
+  AreFull = (place : ℕ) (line : Line) → slice_index_or places place None ≡ Some line → IsFull rom bound (said_at places) line
+
+-- the addresses at whose lines it is to be said what D is, by their places
+abbrev pub wants_at : List Bool → ℕ → Bool
+wants_at wants address = slice_index_or wants (address - 0x8000) false
+
+-- a line that said nothing may say a fact now
+pub record IsRaised (fact : Fact) (old new : Line) : Type 0 where
+  pub of : new.address ≡ old.address
+  pub x : new.x ≡ old.x
+  pub says : (new.fact ≡ old.fact) ⊎ ((old.fact ≡ says.Any) × (new.fact ≡ fact))
+
+abbrev pub IsRaisedAt : Fact → Option Line → Option Line → Type 0
+IsRaisedAt fact None None = Unit {0}
+IsRaisedAt fact (Some old) (Some new) = IsRaised fact old new
+IsRaisedAt fact old new = ⊥
+
+abbrev pub AreRaised : Fact → List (Option Line) → List (Option Line) → Type 0
+AreRaised fact old new = (place : ℕ) → IsRaisedAt fact (slice_index_or old place None) (slice_index_or new place None)
+
+-- and all do but the entry's, and those of addresses where the fact isn't to be said
+abbrev pub AreAllRaised : Bound → (ℕ → Bool) → Fact → List (Option Line) → Type 0
+AreAllRaised bound wants fact places =
+    (place : ℕ) (line : Line) → slice_index_or places place None ≡ Some line → line.fact ≡ says.Any
+    → (line.address ≡ bound.entry) ⊎ ((is_of_d fact ≡ true) × (wants line.address ≡ false))
+
+-- what a fact shows of another one is what is shown where nothing is said
+abbrev pub comes_before : Fact → Fact → Bool
+comes_before (says.Is byte) says.Copy = true
+comes_before (says.Is byte) says.NonZero = true
+comes_before says.Copy says.NonZero = true
+comes_before one other = false
+
+-- so many places aren't wanted yet
+abbrev pub unwanted : Bool → ℕ
+unwanted wanted = if wanted then 0 else 1
 
 -- in order, of the addresses that are reached, and with no BASE above the least
 pub record AreMade (rom : List ℕ) (bound : Bound) (lines : List Line) : Type 0 where

@@ -158,7 +158,7 @@ is_of_d fact = false
 
 module _ (rom : List ℕ) (bound : Bound) where
   -- D is asked for from an address on before it is assigned, within so many instructions with one way each
-  pub asks_within : ℕ → Option ℕ → Bool
+  unfoldable pub asks_within : ℕ → Option ℕ → Bool
   asks_within zero at = false
   asks_within (suc n) None = false
   asks_within (suc n) (Some address) =
@@ -172,21 +172,22 @@ module _ (rom : List ℕ) (bound : Bound) where
 -- A fact that the line of an address can't say, by what the other lines say: it is the entry's; the fact says what D is, and D isn't asked for; or a way leads
 -- there that doesn't show it. The line where that way begins lets it through, and if that says nothing, the fact there would close the way, or wouldn't
 -- show it behind it, or can't be said there either.
-pub data Unsaid (rom : List ℕ) (bound : Bound) (line_of : ℕ → Option Line) (fact : Fact) : ℕ → Type 0 where
-  Enters : Unsaid rom bound line_of fact bound.entry
-  Unasked : (address : ℕ) → is_of_d fact ≡ true → asks_d rom bound address ≡ false → Unsaid rom bound line_of fact address
+pub data Unsaid (rom : List ℕ) (bound : Bound) (asks : ℕ → Bool) (line_of : ℕ → Option Line) (fact : Fact) : ℕ → Type 0 where
+  Enters : Unsaid rom bound asks line_of fact bound.entry
+  Unasked : (address : ℕ) → is_of_d fact ≡ true → asks address ≡ false → Unsaid rom bound asks line_of fact address
   Passes : (address to : ℕ) (line : Line) (way : Way) → line_of address ≡ Some line → IsWay rom bound address way to → lets_through line.fact way.when ≡ true
       → is_shown bound.k (instruction_at rom address) line.fact way.when 0 fact ≡ false
       → (line.fact ≡ says.Any → lets_through fact way.when ≡ true → is_shown bound.k (instruction_at rom address) fact way.when 0 fact ≡ true
-      → Unsaid rom bound line_of fact address)
-      → Unsaid rom bound line_of fact to
+      → Unsaid rom bound asks line_of fact address)
+      → Unsaid rom bound asks line_of fact to
 
 module _ (rom : List ℕ) (bound : Bound) where
   -- ---- the lines of a routine
 
   -- A line that says nothing can say no fact. So no fact could be said at more addresses, while the lines that say something go on saying it.
   abbrev pub IsFull : (ℕ → Option Line) → Line → Type 0
-  IsFull line_of line = line.fact ≡ says.Any → (fact : Fact) → (fact ≡ says.Any → ⊥) → Unsaid rom bound line_of fact line.address
+  IsFull line_of line = line.fact ≡ says.Any → (fact : Fact) → (fact ≡ says.Any → ⊥)
+      → Unsaid rom bound (asks_d rom bound) line_of fact line.address
 
   -- an X that a line may ask for at an address, by whichever ways it is reached
   abbrev pub FitsReached : (ℕ → Option Line) → ℕ → Option ℕ → Type 0
@@ -206,14 +207,15 @@ module _ (rom : List ℕ) (bound : Bound) where
   IsShown line_of line = (way : Way) (to : ℕ) (behind : Line) → line_of to ≡ Some behind → IsWay rom bound line.address way to
       → lets_through line.fact way.when ≡ true → is_shown bound.k (instruction_at rom line.address) line.fact way.when 0 behind.fact ≡ true
 
-  -- Lines of exactly the addresses that are reached. Each way shows the X and the fact of the line to which it leads, and the entry's line asks for none. What a
-  -- line says of D is a byte.
+  -- Lines of exactly the addresses that are reached. Each way shows the X and the fact of the line to which it leads, the entry's line asks for none, and a
+  -- line that says nothing can say no fact. What a line says of D is a byte.
   pub record AreReached (lines : List Line) : Type 0 where
     pub all : (address : ℕ) (given : Option ℕ) → Reached rom bound (line_at lines) address given → HasLine (line_at lines) address given
     pub only : All (IsReached (line_at lines)) lines
     pub shown : All (IsShown (line_at lines)) lines
     pub bytes : All (λ line. IsOfByte line.fact) lines
     pub entered : (line : Line) → line_at lines bound.entry ≡ Some line → line.fact ≡ says.Any
+    pub full : All (IsFull (line_at lines)) lines
 
   -- the lines, without what they say of the cycles that are left
   abbrev pub AreOfWays : List Line → Type 0

@@ -2,7 +2,7 @@
 
 ghost use Rattle.std.specs.Prelude.{◌≡◌, ℕ, ◌<◌, ◌≤◌, ◌≢◌, true, false, length, IfOk, IfErr, MatchOption, OnOk, None, Some};
 ghost use Rattle.std.specs.List.{All};
-ghost use Rattle.cycle_check.specs.Forward.{AreDrawn, AreMade, AreWhole, IsTrueOf};
+ghost use Rattle.cycle_check.specs.Forward.{AreDrawn, AreFull, AreMade, AreWhole, IsTrueOf};
 ghost use Rattle.cycle_check.specs.Closed.{fault_in, left, line_at};
 ghost use Rattle.cycle_check.specs.Found.{HasLimit, IsCertificate, IsFound, IsFoundFrom, IsTimingFault, leaves_rom, left_at_entry, timing_text};
 ghost use Rattle.cycle_check.specs.declared.grammar.Line.{Line};
@@ -13,13 +13,14 @@ use crate::certificate::{Draft, read_certificate};
 use crate::closed::{fault_in, instruction_at, is_allowed, left, line_at};
 use crate::components::find_components;
 use crate::cost::find_costs;
-use crate::drawn::{draw, drawn_at};
+use crate::drawn::drawn_at;
 use crate::exits::{Exit, all_leave_rom, exits_of};
 use crate::fault::{CertFault, TimingCause, TimingFault, obstacle};
 use crate::forward::{Forward, ROM_SIZE, explore};
 use crate::grammar::{Bound, Line, MOST_LEFT};
 use crate::graph::{Graph, graph_of};
 use crate::least::{first_open, grow, leveled, raise_all};
+use crate::said::draw;
 use crate::turn::is_unpaid;
 use crate::write::text_of;
 use std::alloc::{AllocError, Global};
@@ -137,6 +138,7 @@ fn lines_of(
 ) -> Result<Vec<Line>, AllocError>
     requires drawn { AreDrawn forward.now.rom.now forward.now.bound places.now }
     requires whole { AreWhole forward.now.rom.now forward.now.bound places.now }
+    requires full { AreFull forward.now.rom.now forward.now.bound places.now }
     ensures { IfOk result (λ lines. AreMade forward.now.rom.now forward.now.bound lines.items) }
 {
     let mut lines = Vec::new(alloc);

@@ -8,7 +8,7 @@ ghost use Rattle.cycle_check.specs.declared.grammar.Fact.TheVariants.{NonZero};
 ghost use Rattle.cycle_check.specs.Closed.{instruction_at, ways_from};
 ghost use Rattle.cycle_check.specs.Found.{IsTimingFault};
 ghost use Rattle.cycle_check.specs.Forward.{IsKnown, IsTrueOf, StaysTrue};
-ghost use Rattle.cycle_check.specs.Obstacles.{IsLed, IsLost, IsOneOf, MayBeAllowed};
+ghost use Rattle.cycle_check.specs.Obstacles.{IsLed, IsLost, IsOneOf, MayBeAllowed, asks_d, asks_here, ends_here, in_rom, only_next};
 
 use crate::closed::{
     Instruction, instruction_at, is_allowed, is_open, is_shown, lets_through, ways_from,
@@ -16,7 +16,7 @@ use crate::closed::{
 use crate::fault::{TimingCause, TimingFault, obstacle};
 use crate::grammar::{Bound, Fact, Line};
 use crate::known::Knowledge;
-use crate::table::{Way, assigns_d, assigns_named};
+use crate::table::{Way, Ways, assigns_d, assigns_named};
 use arrayvec::ArrayVec;
 use std::alloc::Global;
 use vip_isa::Kind;
@@ -39,16 +39,6 @@ struct Barred {
     copy: bool,
     some: bool,
     byte: bool,
-}
-
-/// What an instruction does with what is known of D.
-enum Use {
-    /// It branches on D, or puts it into the counter register.
-    Asks,
-    /// It assigns D, or the counter register otherwise.
-    Ends,
-    /// Neither.
-    None,
 }
 
 /// The addresses to which the entry of a bound leads in a ROM.
@@ -84,6 +74,44 @@ pub fn end_of(way: Way) -> Option<u16>
     match place_of(to) {
         Some(place) => Some(place as u16),
         None => None,
+    }
+}
+
+// An instruction branches on D, or puts it into the counter register.
+fn asks_here(kind: Kind, named: bool) -> bool
+    ensures { result ≡ asks_here kind named }
+{
+    match kind {
+        Kind::Bz | Kind::Bnz | Kind::Lbz | Kind::Lbnz => true,
+        Kind::Plo => named,
+        _ => false,
+    }
+}
+
+// It assigns D, or else the counter register.
+fn ends_here(kind: Kind, named: bool) -> bool
+    ensures { result ≡ ends_here kind named }
+{
+    assigns_d(kind) || (assigns_named(kind) && named)
+}
+
+// The next address of the ROM, where there is only one.
+fn only_next(ways: Ways) -> Option<u16>
+    ensures { result ≡ only_next ways }
+{
+    match ways.second {
+        Some(_) => None,
+        None => in_rom(ways.first.to),
+    }
+}
+
+// An address, if it lies in the ROM.
+fn in_rom(to: Option<u32>) -> Option<u16>
+    ensures { result ≡ in_rom to }
+{
+    match to {
+        Some(to) if (0x8000..0x8800).contains(&to) => Some(to as u16),
+        _ => None,
     }
 }
 
@@ -285,42 +313,26 @@ impl Forward<'_> {
         }
     }
 
-    // Whether D is asked for from an address on, before it is assigned.
-    fn asks_d(&self, address: u16) -> bool {
+    /// Whether D is asked for from an address on, before it is assigned.
+    pub fn asks_d(&self, address: u16) -> bool
+        ensures { result ≡ asks_d self.now.rom.now self.now.bound address }
+    {
         let mut at = address;
         for _ in 0..MOST_LOOKED {
             let instruction = instruction_at(self.rom, at);
-            match self.use_of(&instruction) {
-                Use::Asks => return true,
-                Use::Ends => return false,
-                Use::None => {}
+            let named = instruction.op.n == self.bound.k;
+            if asks_here(instruction.op.kind, named) {
+                return true;
             }
-            match self.only_next(at, &instruction) {
+            if ends_here(instruction.op.kind, named) {
+                return false;
+            }
+            match only_next(ways_from(&self.bound, at, &instruction)) {
                 Some(next) => at = next,
                 None => return false,
             }
         }
         false
-    }
-
-    // The next address of the ROM, where there is only one.
-    fn only_next(&self, address: u16, instruction: &Instruction) -> Option<u16> {
-        let ways = ways_from(&self.bound, address, instruction);
-        match (end_of(ways.first), ways.second) {
-            (Some(place), None) => Some(0x8000 + place),
-            _ => None,
-        }
-    }
-
-    // What an instruction does with what is known of D.
-    fn use_of(&self, instruction: &Instruction) -> Use {
-        let named = instruction.op.n == self.bound.k;
-        match instruction.op.kind {
-            Kind::Bz | Kind::Bnz | Kind::Lbz | Kind::Lbnz => Use::Asks,
-            Kind::Plo if named => Use::Asks,
-            kind if assigns_d(kind) || (assigns_named(kind) && named) => Use::Ends,
-            _ => Use::None,
-        }
     }
 
     // Bars each fact of a line that a line which leads there doesn't show. False where there is none.

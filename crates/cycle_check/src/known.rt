@@ -99,8 +99,8 @@ fn byte_shows(byte: Option<u8>, k: u8, instruction: &Instruction, when: When, as
     }
 }
 
-// The byte that D may be behind an instruction: that of LDI, or the one that it was.
-fn byte_after(instruction: &Instruction, byte: Option<u8>) -> Option<u8>
+/// The byte that D may be behind an instruction: that of LDI, or the one that it was.
+pub fn byte_after(instruction: &Instruction, byte: Option<u8>) -> Option<u8>
     ensures { result ≡ byte_after instruction.now.op.kind instruction.now.next byte }
 {
     match instruction.op.kind {

@@ -33,6 +33,7 @@ mod known;
 pub mod laws;
 mod least;
 mod reach;
+mod said;
 mod short;
 mod table;
 mod turn;

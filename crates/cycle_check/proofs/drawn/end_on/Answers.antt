@@ -1,5 +1,5 @@
 use Rattle.std.proofs.Common.{◌+◌, ◌∙◌, sym, ap, arith, Some}
-use Rattle.cycle_check.specs.Forward.{IsEnd}
+use Rattle.cycle_check.specs.Forward.{IsEnd, wants_at}
 use Rattle.cycle_check.proofs.Drawing.{held_on, leads_nowhere, leads_out, not_let}
 use Rattle.cycle_check.proofs.drawn.end_on.Goals as goal
 
@@ -30,5 +30,5 @@ end_at-requires-clause-open c = sym c.lets_through.ensures ∙ c.if-not-lets_thr
 pub returns : goal.returns
 returns c =
     held_on c.args.forward.now.rom.now c.args.forward.now.bound c.args.places.now c.args.line.now c.args.way (0x8000 + c.in-Some-place_of.place) _
-    (λ end. IsEnd c.args.forward.now.rom.now c.args.forward.now.bound c.args.places.now end.0 end.1)
+    (λ end. IsEnd c.args.forward.now.rom.now c.args.forward.now.bound c.args.places.now (wants_at c.args.wants.now) end.0 end.1)
     (c.in-Some.is ∙ ap Some (sym c.in-Some-place_of.ensures.0)) c.end_at.ensures

@@ -17,5 +17,5 @@ loop-place-preserved c i low = elim (cases_lt i c.loop-place.place) [
 
 pub returns : goal.returns
 returns c =
-    whole_of c.args.forward.now.rom.now c.args.forward.now.bound c.args.places.now c.requires.drawn
+    whole_of c.args.forward.now.rom.now c.args.forward.now.bound c.args.places.now c.requires
     (λ i low. c.loop-place.invariant i (omega (arith, low)))

@@ -20,5 +20,5 @@ loop-place-preserved c = elim c.match-drawn_at.branch [
 pub returns : goal.returns
 returns c =
     let all : c.loop-place.place ≡ 2048 = omega arith in
-    listed_all c.args.forward.now.rom.now c.args.forward.now.bound c.args.places.now c.loop-place.lines.items c.requires.drawn c.requires.whole
+    listed_all c.args.forward.now.rom.now c.args.forward.now.bound c.args.places.now c.loop-place.lines.items c.requires.drawn c.requires.whole c.requires.full
     (rw all at c.loop-place.invariant)
