@@ -6,6 +6,7 @@ use Rattle.std.specs.List.{list_all, list_any}
 use Rattle.std.specs.Char.{digit_value}
 use Rattle.std.specs.Str.Parse.{digits_value}
 use Rattle.std.proofs.lemmas.Bool.{cond-true, cond-false, and_from, le-ltb, le-leb, lt-ltb}
+use Rattle.vip_byte.proofs.WrittenLemmas.{digit_is}
 use Rattle.vip_byte.specs.HexText.{hex_digit, hex2, hex4}
 use Rattle.vip_isa.proofs.Below.{at-passes_below}
 use Rattle.asm_lex.specs.declared.shape.ValueFault.TheVariants.{Undefined, Range}
@@ -22,9 +23,6 @@ use Rattle.asm_listing.proofs.Plain.{is_plain, IsPlain, one_term, whole_sum, pla
 pub found : (o : Option ℕ) (n : ℕ) → option_map_or (λ m. eqb m n) o false ≡ true → o ≡ Some n
 found None n e = absurd (cc)
 found (Some m) n e = ap Some (eqb-true m n e)
-
-digit_is : (n : ℕ) → n < 16 → digit_value (hex_digit n) ≡ n
-digit_is n below = eqb-true _ _ (at-passes_below (λ n. eqb (digit_value (hex_digit n)) n) 16 refl n below)
 
 pub digit_plain : (n : ℕ) → n < 16 → is_plain (hex_digit n) ≡ true
 digit_plain n below = at-passes_below (λ n. is_plain (hex_digit n)) 16 refl n below

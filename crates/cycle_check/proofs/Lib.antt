@@ -14,9 +14,10 @@ pub mod Leading
 pub mod Raised
 pub mod Saying
 pub mod Appends
-mod Tried
 pub mod Leveled
 pub mod Unpaid
 pub mod Carried
 pub mod Gaps
 pub mod Reaching
+pub mod Written
+pub mod Certified

@@ -1,7 +1,6 @@
 -- A certificate that is found for a routine.
-use Rattle.std.specs.Prelude.{◌≡◌, ℕ, ◌<◌, ◌≤◌, ◌⊎◌, true, List, length, [], ◌∷◌, ◌++◌, codes, decimal, drop, flat_map, Option, Some, None, Ok}
+use Rattle.std.specs.Prelude.{◌≡◌, ℕ, ◌<◌, ◌≤◌, ◌⊎◌, List, length, [], ◌∷◌, ◌++◌, codes, decimal, drop, flat_map, Option, Some, None, Ok}
 use Rattle.std.specs.List.{All}
-use Rattle.std.specs.Option.{option_map_or}
 use Rattle.vip_byte.specs.HexText.{hex2, hex4}
 use Rattle.vip_byte.specs.Reading.{read}
 use Rattle.cycle_check.specs.declared.fault.TimingCause.{TimingCause}
@@ -16,8 +15,7 @@ use Rattle.cycle_check.specs.declared.grammar.Line.{Line}
 use Rattle.cycle_check.specs.Certificate.{certificate_format, certificate_of}
 use Rattle.cycle_check.specs.Closed.{bytes_at, checked, left, line_at}
 use Rattle.cycle_check.specs.Exits.{exits, remarks_text}
-use Rattle.cycle_check.specs.Reading.{AreStrict}
-use Rattle.cycle_check.specs.Obstacles.{AreAllowed, AreClosed, AreLeast, AreOfWays, IsBarred, IsGrown, IsMost, IsRefused, AreLowSteps, HasLowBase, IsUncounted, IsUnpaid}
+use Rattle.cycle_check.specs.Obstacles.{AreLeast, AreOfWays, IsBarred, IsGrown, IsMost, IsRefused, IsUncounted, IsUnpaid}
 
 -- ---- the text of a certificate: single blanks, upper-case digits, no leading zeros
 
@@ -67,9 +65,6 @@ leaves_rom (Some to) = (to < 0x8000) ⊎ (0x8800 ≤ to)
 abbrev pub HasLimit : Bound → List Line → Type 0
 HasLimit bound lines = (line : Line) × (line_at lines bound.entry ≡ Some line) × (bound.limit ≡ left line 255)
 
-abbrev pub left_at_entry : Bound → List Line → ℕ
-left_at_entry bound lines = option_map_or (λ line. left line 255) (line_at lines bound.entry) 0
-
 -- A certificate of a routine that is entered at an address, with this program counter and this counter: it reads as its lines, is accepted, and has behind
 -- them a remark for each exit. So the routine is left only by SEP of another register or out of the ROM, and its limit is what is left at the entry where
 -- the counter is greatest.
@@ -103,25 +98,14 @@ IsFound rom entry p k text = IsFoundFrom rom (record { entry = entry; p = p; k =
 
 -- ---- why none is found
 
-module _ (rom : List ℕ) (bound : Bound) where
-  -- Nothing stands against lines, and yet they are no certificate with the limit that is theirs: no law says that the text is read as it was written.
-  pub record IsUnread (lines : List Line) : Type 0 where
-    pub strict : AreStrict lines
-    pub closed : AreClosed rom bound lines
-    pub allowed : AreAllowed rom bound lines
-    pub apart : bound.p ≡ bound.k → ⊥
-    pub bases : (address : ℕ) → HasLowBase lines address
-    pub steps : AreLowSteps lines
-    pub none : IsCertificate rom bound.entry bound.p bound.k (timing_text rom (record bound { limit = left_at_entry bound lines }) lines) → ⊥
-
 -- What stands against lines at an address: a turn that isn't paid for, an opcode, BASEs that grow without end. Of the entry: that the program counter is to
--- count, or that the text isn't read.
+-- count, or that no register has such a number.
 pub data Against (rom : List ℕ) (bound : Bound) (lines : List Line) : ℕ → Type 0 where
   Turn : (address : ℕ) → IsUnpaid rom bound lines address → Against rom bound lines address
   Barred : (address : ℕ) → IsBarred rom bound lines address → Against rom bound lines address
   Grows : (address : ℕ) → IsGrown rom bound lines address → Against rom bound lines address
   Same : bound.p ≡ bound.k → Against rom bound lines bound.entry
-  Unread : IsUnread rom bound lines → Against rom bound lines bound.entry
+  Registers : (15 < bound.p) ⊎ (15 < bound.k) → Against rom bound lines bound.entry
 
 module _ (rom : List ℕ) (bound : Bound) where
   -- Lines of exactly the addresses that are reached, with no BASE above the least, are no certificate for what stands against them at the address.

@@ -1,11 +1,9 @@
 //! The exits of a certificate: where its routine is left.
 
-ghost use Rattle.std.specs.Prelude.{◌≡◌, ◌%◌, ◌++◌, OnOk, IfOk, Some, None, option_map, true, false};
-ghost use Rattle.std.specs.List.{All};
+ghost use Rattle.std.specs.Prelude.{◌≡◌, ◌%◌, ◌++◌, OnOk, IfOk, Some, None, option_map};
 ghost use Rattle.vip_byte.specs.Room.{HasRoom};
 ghost use Rattle.cycle_check.specs.Closed.{ways_at};
 ghost use Rattle.cycle_check.specs.Exits.{end_text, exit_line, exit_on, exits, exits_at, exits_with, in_order, return_text};
-ghost use Rattle.cycle_check.specs.Found.{leaves_rom};
 ghost use Rattle.cycle_check.specs.Reading.{AreRising};
 
 use crate::closed::{bytes_at, instruction_at, lets_through, line_at, line_behind, ways_from};
@@ -55,17 +53,6 @@ impl Exit {
                 put(into, instruction_text(self.address, self.bytes).as_slice());
                 put(into, return_text(self.may_return));
             }
-        }
-    }
-
-    /// Whether it doesn't lead to an address of the ROM.
-    pub fn leaves_rom(&self) -> bool
-        ensures leaves { result ≡ true → leaves_rom self.now.to }
-        ensures stays { result ≡ false → leaves_rom self.now.to → ⊥ }
-    {
-        match self.to {
-            Some(to) => !(0x8000..0x8800).contains(&to),
-            None => true,
         }
     }
 }
@@ -185,17 +172,4 @@ fn low_word(to: Option<u32>) -> Option<u16>
         Some(to) => Some((to % 65_536) as u16),
         None => None,
     }
-}
-
-/// Whether no exit leads to an address of the ROM.
-pub fn all_leave_rom(found: &[Exit]) -> bool
-    ensures leave { result ≡ true → All (λ exit. leaves_rom exit.to) found.now }
-    ensures stays { result ≡ false → All (λ exit. leaves_rom exit.to) found.now → ⊥ }
-{
-    for exit in found {
-        if !exit.leaves_rom() {
-            return false;
-        }
-    }
-    true
 }

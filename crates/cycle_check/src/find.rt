@@ -1,21 +1,19 @@
 //! A certificate that is found for a routine.
 
 ghost use Rattle.std.specs.Prelude.{◌≡◌, ℕ, ◌<◌, ◌≤◌, ◌≢◌, true, false, length, IfOk, IfErr, MatchOption, OnOk, None, Some};
-ghost use Rattle.std.specs.List.{All};
 ghost use Rattle.cycle_check.specs.Forward.{AreDrawn, AreFull, AreMade, AreWhole, IsTrueOf};
-ghost use Rattle.cycle_check.specs.Closed.{fault_in, left, line_at};
-ghost use Rattle.cycle_check.specs.Found.{HasLimit, IsCertificate, IsFound, IsFoundFrom, IsTimingFault, leaves_rom, left_at_entry, timing_text};
+ghost use Rattle.cycle_check.specs.Closed.{left, line_at};
+ghost use Rattle.cycle_check.specs.Found.{IsFound, IsFoundFrom, IsTimingFault};
 ghost use Rattle.cycle_check.specs.declared.grammar.Line.{Line};
 ghost use Rattle.cycle_check.specs.Obstacles.{AreAllowed, AreClosed, AreLowSteps, HasLowBase, IsBarred, IsMost, IsOfByte};
-ghost use Rattle.cycle_check.specs.Reading.{AreRising, IsRead};
+ghost use Rattle.cycle_check.specs.Reading.{AreRising};
 
-use crate::certificate::{Draft, read_certificate};
-use crate::closed::{fault_in, instruction_at, is_allowed, left, line_at};
+use crate::closed::{instruction_at, is_allowed, line_at};
 use crate::components::find_components;
 use crate::cost::find_costs;
 use crate::drawn::drawn_at;
-use crate::exits::{Exit, all_leave_rom, exits_of};
-use crate::fault::{CertFault, TimingCause, TimingFault, obstacle};
+use crate::exits::exits_of;
+use crate::fault::{TimingCause, TimingFault, obstacle};
 use crate::forward::{Forward, ROM_SIZE, explore};
 use crate::grammar::{Bound, Line, MOST_LEFT};
 use crate::graph::{Graph, graph_of};
@@ -34,7 +32,7 @@ use vip_byte::MOST_TEXT;
 /// ways lead that these facts let through, and each says a fact and the X that all ways there show. A loop has the least STEP that pays its turns,
 /// and each line the least BASE. Where an address is met whose opcode no line allows, where a loop isn't counted, or where a BASE passes 1,000,000,
 /// the answer is that; so it is where one fact a line doesn't suffice, with an address of a turn that no BASEs and no STEP close for these lines; or
-/// memory was wanting. For which routines one is found is not promised.
+/// with the entry, where P is K or one of them is no register's number; or memory was wanting. For which routines one is found is not promised.
 pub fn find_timing(
     alloc: Global,
     rom: &[u8; 2048],
@@ -179,32 +177,42 @@ fn certify(alloc: Global, forward: &Forward, lines: &[Line]) -> Result<Vec<u8>, 
     if let Some(address) = most_in(forward, lines) {
         return Err(obstacle(forward.rom, TimingCause::Most, address));
     }
-    if forward.bound.p == forward.bound.k {
-        return Err(obstacle(forward.rom, TimingCause::Fact, forward.bound.entry));
+    let Bound { entry, p, k, .. } = forward.bound;
+    if p == k || p > 0xF || k > 0xF {
+        return Err(obstacle(forward.rom, TimingCause::Fact, entry));
     }
-    write(alloc, forward, lines)
+    match line_at(lines, u32::from(entry)) {
+        Some(first) => Ok(write(alloc, forward.rom, &forward.bound, lines, &first)?),
+        // it lies outside the ROM
+        None => Err(obstacle(forward.rom, TimingCause::Opcode, entry)),
+    }
 }
 
-// The same, where nothing stands against the lines.
-fn write(alloc: Global, forward: &Forward, lines: &[Line]) -> Result<Vec<u8>, TimingFault>
-    requires made { AreMade forward.now.rom.now forward.now.bound lines.now }
-    requires closed { AreClosed forward.now.rom.now forward.now.bound lines.now }
+// The text of a certificate whose limit is what is left at the entry's line where the counter is greatest.
+fn write(
+    alloc: Global,
+    rom: &[u8],
+    start: &Bound,
+    lines: &[Line],
+    first: &Line,
+) -> Result<Vec<u8>, AllocError>
+    requires made { AreMade rom.now start.now lines.now }
+    requires closed { AreClosed rom.now start.now lines.now }
     requires steps { AreLowSteps lines.now }
-    requires allowed { AreAllowed forward.now.rom.now forward.now.bound lines.now }
+    requires allowed { AreAllowed rom.now start.now lines.now }
     requires bases { (address : ℕ) → HasLowBase lines.now address }
-    requires apart { forward.now.bound.p ≢ forward.now.bound.k }
-    ensures found { IfOk result (λ text. IsFoundFrom forward.now.rom.now forward.now.bound text.items) }
+    requires apart { start.now.p ≢ start.now.k }
+    requires registers { (start.now.p ≤ 15) × (start.now.k ≤ 15) }
+    requires first { line_at lines.now start.now.entry ≡ Some first.now }
+    ensures found { IfOk result (λ text. IsFoundFrom rom.now start.now text.items) }
     ensures fits { IfOk result (λ text. length text.items ≤ MOST_TEXT) }
-    ensures fault { IfErr result (IsTimingFault forward.now.rom.now forward.now.bound) }
 {
-    let bound = bound_with(&forward.bound, lines);
-    let text = timing_text(alloc, forward.rom, &bound, lines)?;
-    let is_found = is_certificate(alloc, forward.rom, &forward.bound, text.as_slice())?;
-    if is_found {
-        Ok(text)
-    } else {
-        Err(obstacle(forward.rom, TimingCause::Fact, forward.bound.entry))
-    }
+    let bound = Bound {
+        limit: most_at(first),
+        ..*start
+    };
+    let exits = exits_of(alloc, rom, &bound, lines)?;
+    text_of(alloc, &bound, lines, exits.as_slice())
 }
 
 // The first address at whose line the opcode isn't allowed.
@@ -250,34 +258,6 @@ fn is_over(lines: &[Line], address: u16) -> bool
     }
 }
 
-// The text of a certificate, with its exits.
-fn timing_text(
-    alloc: Global,
-    rom: &[u8],
-    bound: &Bound,
-    lines: &[Line],
-) -> Result<Vec<u8>, AllocError>
-    requires { AreRising lines.now }
-    ensures { IfOk result (λ text. text.items ≡ timing_text rom.now bound.now lines.now) }
-{
-    let exits = exits_of(alloc, rom, bound, lines)?;
-    text_of(alloc, bound, lines, exits.as_slice())
-}
-
-// The bound of some lines: what is left at the entry where the counter is greatest is the limit.
-fn bound_with(start: &Bound, lines: &[Line]) -> Bound
-    requires rising { AreRising lines.now }
-    requires bases { (address : ℕ) → HasLowBase lines.now address }
-    requires steps { AreLowSteps lines.now }
-    ensures { result ≡ record start.now { limit = left_at_entry start.now lines.now } }
-{
-    let limit = match line_at(lines, u32::from(start.entry)) {
-        Some(line) => most_at(&line),
-        None => 0,
-    };
-    Bound { limit, ..*start }
-}
-
 // What is left at a line where the counter is greatest.
 fn most_at(line: &Line) -> u32
     requires base { line.now.base ≤ 1000000 }
@@ -285,111 +265,4 @@ fn most_at(line: &Line) -> u32
     ensures { result ≡ left line.now 255 }
 {
     line.base + line.step * 255
-}
-
-// Whether a text is a certificate whose exits lead out of the ROM.
-fn is_certificate(alloc: Global, rom: &[u8], start: &Bound, text: &[u8]) -> Result<bool, AllocError>
-    ensures found { IfOk result (λ found. found ≡ true → IsCertificate rom.now start.now.entry start.now.p start.now.k text.now) }
-    ensures none { IfOk result (λ found. found ≡ false → IsCertificate rom.now start.now.entry start.now.p start.now.k text.now → ⊥) }
-{
-    if text.len() > MOST_TEXT {
-        return Ok(false);
-    }
-    match read_certificate(alloc, text) {
-        Ok(draft) => is_found(alloc, rom, start, &draft, text),
-        Err(CertFault::Fault { .. }) => Ok(false),
-        Err(CertFault::NoMemory) => Err(AllocError),
-    }
-}
-
-// Whether a text that was read is the one of what it says, and is accepted, and its exits lead out of the ROM.
-fn is_found(
-    alloc: Global,
-    rom: &[u8],
-    start: &Bound,
-    draft: &Draft,
-    text: &[u8],
-) -> Result<bool, AllocError>
-    requires read { IsRead text.now draft.now }
-    requires fits { length text.now ≤ MOST_TEXT }
-    ensures found { IfOk result (λ found. found ≡ true → IsCertificate rom.now start.now.entry start.now.p start.now.k text.now) }
-    ensures none { IfOk result (λ found. found ≡ false → IsCertificate rom.now start.now.entry start.now.p start.now.k text.now → ⊥) }
-{
-    let Some(bound) = draft.bound() else {
-        return Ok(false);
-    };
-    let lines = draft.lines();
-    let exits = exits_of(alloc, rom, &bound, lines)?;
-    let again = text_of(alloc, &bound, lines, exits.as_slice())?;
-    Ok(is_as_read(
-        rom,
-        start,
-        &bound,
-        lines,
-        exits.as_slice(),
-        again.as_slice(),
-        text,
-    ))
-}
-
-// Whether a text is the one of what was read of it, which is of this routine and accepted, and whose exits lead out of the ROM.
-fn is_as_read(
-    rom: &[u8],
-    start: &Bound,
-    bound: &Bound,
-    lines: &[Line],
-    exits: &[Exit],
-    again: &[u8],
-    text: &[u8],
-) -> bool
-    requires { AreRising lines.now }
-    ensures found { result ≡ true
-        → (again.now ≡ text.now) × All (λ exit. leaves_rom exit.to) exits.now
-        × ((bound.now.entry ≡ start.now.entry) × (bound.now.p ≡ start.now.p) × (bound.now.k ≡ start.now.k))
-        × HasLimit bound.now lines.now × (fault_in rom.now bound.now lines.now ≡ None) }
-    ensures none { result ≡ false
-        → ((again.now ≡ text.now) × All (λ exit. leaves_rom exit.to) exits.now
-        × ((bound.now.entry ≡ start.now.entry) × (bound.now.p ≡ start.now.p) × (bound.now.k ≡ start.now.k))
-        × HasLimit bound.now lines.now × (fault_in rom.now bound.now lines.now ≡ None)) → ⊥ }
-{
-    if !are_same(again, text) {
-        return false;
-    }
-    if !all_leave_rom(exits) {
-        return false;
-    }
-    if !is_of(start, bound) {
-        return false;
-    }
-    if !has_limit(bound, lines) {
-        return false;
-    }
-    fault_in(rom, bound, lines).is_none()
-}
-
-fn are_same(one: &[u8], other: &[u8]) -> bool
-    ensures same { result ≡ true → one.now ≡ other.now }
-    ensures other { result ≡ false → one.now ≢ other.now }
-{
-    one == other
-}
-
-// Whether a bound is of this routine.
-fn is_of(start: &Bound, bound: &Bound) -> bool
-    ensures same { result ≡ true → (bound.now.entry ≡ start.now.entry) × (bound.now.p ≡ start.now.p) × (bound.now.k ≡ start.now.k) }
-    ensures other { result ≡ false → ((bound.now.entry ≡ start.now.entry) × (bound.now.p ≡ start.now.p) × (bound.now.k ≡ start.now.k)) → ⊥ }
-{
-    bound.entry == start.entry && bound.p == start.p && bound.k == start.k
-}
-
-// Whether the limit is what is left at the entry where the counter is greatest.
-fn has_limit(bound: &Bound, lines: &[Line]) -> bool
-    requires { AreRising lines.now }
-    ensures same { result ≡ true → HasLimit bound.now lines.now }
-    ensures other { result ≡ false → HasLimit bound.now lines.now → ⊥ }
-{
-    match line_at(lines, u32::from(bound.entry)) {
-        Some(line) => left(&line, 255) == u64::from(bound.limit),
-        None => false,
-    }
 }

@@ -1,27 +1,23 @@
 -- What the lines of claims say, as they are read: these claims.
-use Rattle.std.proofs.Common.{◌≡◌, ℕ, ◌+◌, ◌-◌, ◌*◌, ◌/◌, ◌%◌, ◌<◌, true, false, Bool, ◌&&◌, ltb, eqb, cond, List, [], ◌∷◌, ◌++◌, length, take, drop, get_or, Some, None, Result, Ok, Err, refl, sym, ap, ◌∙◌, arith, inl, inr, append_assoc, add-one}
-use Rattle.std.specs.Prelude.{flat_map, map, not, slice_index, ◌==◌}
-use Rattle.std.specs.Char.{digit_value, is_digit}
-use Rattle.std.specs.List.{All, list_all, position_or_len, prefix_len, sum_by}
+use Rattle.std.proofs.Common.{◌≡◌, ℕ, ◌+◌, ◌-◌, ◌*◌, ◌<◌, true, false, ◌&&◌, eqb, List, [], ◌∷◌, ◌++◌, length, take, get_or, Some, None, Ok, refl, sym, ap, ◌∙◌, arith, inl, inr, append_assoc, add-one}
+use Rattle.std.specs.Prelude.{flat_map, map, slice_index, ◌==◌}
+use Rattle.std.specs.List.{All, list_all, sum_by}
 use Rattle.std.specs.Option.{is_some, unwrap_or}
 use Rattle.std.specs.Result.{result_ok}
 use Rattle.std.specs.Ordering.{is_lt}
-use Rattle.std.specs.Str.Lines.{lines, strip_carriage_return}
-use Rattle.std.proofs.lemmas.Bool.{agree_below_at, and_from, and_parts, cases_lt, eqb-true, le-leb, le-ltb, lt-ltb}
+use Rattle.std.specs.Str.Lines.{lines}
+use Rattle.std.proofs.lemmas.Bool.{and_from, cases_lt, le-leb}
 use Rattle.std.proofs.Math.Seq.{take-suc}
-use Rattle.std.proofs.lemmas.List.{append-nil, drop_at, flat_map_more, get_or_append_left, get_or_at, length-append, nil_from_length, take_at}
-use Rattle.std.proofs.lemmas.List.Elements.{All-append, All-cons, All-head, All-nil, All-tail}
-use Rattle.std.proofs.lemmas.List.Folds.{list_all-append, list_any-from_Any}
-use Rattle.std.proofs.lemmas.List.Sums.{AllPass-from_list_all, position_or_len_is, sum_by-cons}
+use Rattle.std.proofs.lemmas.List.{append-nil, flat_map_more, get_or_append_left, get_or_at, length-append, nil_from_length}
+use Rattle.std.proofs.lemmas.List.Elements.{All-append, All-cons, All-head, All-map, All-nil, All-tail}
+use Rattle.std.proofs.lemmas.List.Folds.{flat_map-map, list_any-from_Any}
+use Rattle.std.proofs.lemmas.List.Sums.{list_all-from_AllPass, sum_by-cons}
 use Rattle.std.proofs.lemmas.Option.{slice_get-get_or}
 use Rattle.vip_byte.proofs.ReadingLemmas.{IsReadUpTo, read_line, read_none, read-whole}
-use Rattle.vip_byte.proofs.TextLemmas.{lines_first, words_blanks, words_first}
-use Rattle.vip_byte.specs.HexText.{hex_digit, hex4, words_text}
-use Rattle.vip_byte.specs.Number.{number}
-use Rattle.vip_byte.specs.declared.number.NumFault.{NumFault}
-use Rattle.vip_byte.specs.declared.number.NumFault.TheVariants.{BadDigit, TooLarge}
+use Rattle.vip_byte.proofs.WrittenLemmas.{behind, hex4_read, hex4_word, is_line, is_word, line_of_words, lines_ended, word_loud, words_line}
+use Rattle.vip_byte.specs.HexText.{hex4, words_text}
 use Rattle.vip_byte.specs.Reading.{read}
-use Rattle.vip_byte.specs.Text.{is_blank, newline, words}
+use Rattle.vip_byte.specs.Text.{newline, words}
 use Rattle.chip8_lang.specs.Editions.{memory_start}
 use Rattle.chip8_lang.specs.declared.view.Edition.{Edition}
 use Rattle.game_check.specs.declared.claim.Claim.{Claim}
@@ -32,74 +28,10 @@ use Rattle.game_check.specs.Order.{IsAscending}
 use Rattle.game_check.specs.Proof.{IsAccepted, closed_format, proof_of, refusal}
 use Rattle.game_check.specs.Searching.{AreWords, IsWord, IsWritable}
 
--- ---- digits
-
--- a digit is none of what ends a word or a line, and begins no remark
-abbrev is_plain : ℕ → Bool
-is_plain n = not (is_blank (hex_digit n)) && (not (hex_digit n == 10) && (not (hex_digit n == 13) && not (hex_digit n == 35)))
-
-abbrev reads : ℕ → Bool
-reads n = is_digit (hex_digit n) 16 && digit_value (hex_digit n) == n
-
-plain : (n : ℕ) → n < 16 → is_plain n ≡ true
-plain n below = agree_below_at is_plain (λ n. true) 16 n refl below
-
-digit_reads : (n : ℕ) → n < 16 → reads n ≡ true
-digit_reads n below = agree_below_at reads (λ n. true) 16 n refl below
-
-not_true : (b : Bool) → not b ≡ true → b ≡ false
-not_true false h = refl
-not_true true h = cc
-
-plain_parts : (n : ℕ) → n < 16
-    → (is_blank (hex_digit n) ≡ false) × (not (hex_digit n == 10) ≡ true) × (not (hex_digit n == 13) ≡ true) × ((hex_digit n == 35) ≡ false)
-plain_parts n below =
-    let one = and_parts (not (is_blank (hex_digit n))) (not (hex_digit n == 10) && (not (hex_digit n == 13) && not (hex_digit n == 35))) (plain n below) in
-    let two = and_parts (not (hex_digit n == 10)) (not (hex_digit n == 13) && not (hex_digit n == 35)) one.1 in
-    let three = and_parts (not (hex_digit n == 13)) (not (hex_digit n == 35)) two.1 in
-    (not_true (is_blank (hex_digit n)) one.0, two.0, three.0, not_true (hex_digit n == 35) three.1)
-
-no_blank : (n : ℕ) → n < 16 → is_blank (hex_digit n) ≡ false
-no_blank n below = (plain_parts n below).0
-
-no_mark : (n : ℕ) → n < 16 → eqb (hex_digit n) 35 ≡ false
-no_mark n below = (plain_parts n below).3
-
--- a byte that ends no line
-abbrev is_inner : ℕ → Bool
-is_inner b = not (b == 10) && not (b == 13)
-
-inner : (n : ℕ) → n < 16 → is_inner (hex_digit n) ≡ true
-inner n below = and_from (not (hex_digit n == 10)) (not (hex_digit n == 13)) (plain_parts n below).1 (plain_parts n below).2
-
-digit_is : (n : ℕ) → n < 16 → digit_value (hex_digit n) ≡ n
-digit_is n below = eqb-true _ _ (and_parts (is_digit (hex_digit n) 16) _ (digit_reads n below)).1
-
 -- ---- words
 
-abbrev value_of : ℕ → ℕ → ℕ → ℕ → ℕ
-value_of a b c d = (((0 * 16 + a) * 16 + b) * 16 + c) * 16 + d
-
-abbrev read_four : ℕ → ℕ → ℕ → ℕ → Result ℕ NumFault
-read_four a b c d =
-    cond (not (ltb a 16 && (ltb b 16 && (ltb c 16 && (ltb d 16 && true))))) (Err BadDigit)
-    (cond (ltb 0xffff (value_of a b c d)) (Err TooLarge) (Ok (value_of a b c d)))
-
-four_digits : (x y z u a b c d : ℕ) → digit_value x ≡ a → digit_value y ≡ b → digit_value z ≡ c → digit_value u ≡ d → a < 16 → b < 16 → c < 16 → d < 16
-    → number 16 (x ∷ y ∷ z ∷ u ∷ []) 0xffff ≡ Ok (value_of a b c d)
-unfolding number
-four_digits x y z u a b c d ex ey ez eu low_a low_b low_c low_d =
-    ap (λ k. read_four k (digit_value y) (digit_value z) (digit_value u)) ex ∙ ap (λ k. read_four a k (digit_value z) (digit_value u)) ey
-    ∙ ap (λ k. read_four a b k (digit_value u)) ez ∙ ap (read_four a b c) eu
-    ∙ rw (lt-ltb a 16 low_a, lt-ltb b 16 low_b, lt-ltb c 16 low_c, lt-ltb d 16 low_d, le-ltb 0xffff (value_of a b c d) (omega (arith, low_a, low_b, low_c, low_d))) refl
-
 word_reads : (w : ℕ) → IsWord w → word_of (hex4 w) ≡ Some w
-word_reads w below =
-    ap result_ok
-    (four_digits (hex_digit (w / 256 / 16)) (hex_digit (w / 256 % 16)) (hex_digit (w % 256 / 16)) (hex_digit (w % 256 % 16)) (w / 256 / 16)
-    (w / 256 % 16) (w % 256 / 16) (w % 256 % 16) (digit_is _ (omega (arith, below))) (digit_is _ (omega arith)) (digit_is _ (omega arith))
-    (digit_is _ (omega arith)) (omega (arith, below)) (omega arith) (omega arith) (omega arith))
-    ∙ ap Some (omega arith)
+word_reads w below = ap result_ok (hex4_read w below)
 
 words_are : (ws : List ℕ) → All IsWord ws → are_words (map hex4 ws) ≡ true
 words_are [] all = refl
@@ -110,30 +42,15 @@ values_are [] all = refl
 values_are (w ∷ ws) all =
     ap (λ o. unwrap_or o 0 ∷ values (map hex4 ws)) (word_reads w (All-head IsWord w ws all)) ∙ ap (λ r. w ∷ r) (values_are ws (All-tail IsWord w ws all))
 
-first_word : (a : ℕ) (rest : List ℕ) → IsWord a → position_or_len is_blank rest ≡ 0 → words (hex4 a ++ rest) ≡ hex4 a ∷ words rest
-first_word a rest below ends =
-    words_first (hex4 a ++ rest) 4
-    (rw (
-      no_blank (a / 256 / 16) (omega (arith, below)),
-      no_blank (a / 256 % 16) (omega arith),
-      no_blank (a % 256 / 16) (omega arith),
-      no_blank (a % 256 % 16) (omega arith),
-      ends,
-    ) refl)
-    (omega arith) (omega arith)
+text_behind : (ws : List ℕ) → words_text ws ≡ behind (map hex4 ws)
+text_behind ws = sym (flat_map-map (λ word. 32 ∷ word) hex4 ws)
 
-words_empty : words [] ≡ []
-unfolding words
-words_empty = refl
+all_words : (ws : List ℕ) → list_all is_word (map hex4 ws) ≡ true
+all_words ws =
+    list_all-from_AllPass is_word (map hex4 ws) (All-map (λ word. is_word word ≡ true) hex4 ws (λ i d within. hex4_word (get_or ws i d)))
 
-words_line : (a : ℕ) (ws : List ℕ) → IsWord a → All IsWord ws → words (hex4 a ++ words_text ws) ≡ hex4 a ∷ map hex4 ws
-words_line a [] below all = first_word a [] below refl ∙ ap (λ r. hex4 a ∷ r) words_empty
-words_line a (w ∷ ws) below all =
-    let here = All-head IsWord w ws all in
-    let before : prefix_len is_blank (words_text (w ∷ ws)) ≡ 1 = rw (no_blank (w / 256 / 16) (omega (arith, here))) refl in
-    let rest : words (words_text (w ∷ ws)) ≡ words (hex4 w ++ words_text ws) =
-    words_blanks (words_text (w ∷ ws)) ∙ ap (λ n. words (drop n (words_text (w ∷ ws)))) before in
-    first_word a (words_text (w ∷ ws)) below refl ∙ ap (λ r. hex4 a ∷ r) (rest ∙ words_line w ws here (All-tail IsWord w ws all))
+hex_words : (a : ℕ) (ws : List ℕ) → words (hex4 a ++ words_text ws) ≡ hex4 a ∷ map hex4 ws
+hex_words a ws = ap (λ t. words (hex4 a ++ t)) (text_behind ws) ∙ words_line (hex4 a) (map hex4 ws) (hex4_word a) (all_words ws)
 
 -- ---- lines
 
@@ -163,61 +80,24 @@ says_claim c are writable =
     let ws = c.low ∷ c.high ∷ c.point.stack.items in
     let all = line_words c are writable in
     let every = All-cons IsWord c.point.pc ws are.pc all in
-    said_in_words (body c) (hex4 c.point.pc) (map hex4 ws) c (words_line c.point.pc ws are.pc all) (no_mark (c.point.pc / 256 / 16) (omega (arith, are.pc)))
+    said_in_words (body c) (hex4 c.point.pc) (map hex4 ws) c (hex_words c.point.pc ws) (word_loud (hex4 c.point.pc) (hex4_word c.point.pc))
     (claim_in_words (map hex4 (c.point.pc ∷ ws)) (c.point.pc ∷ ws) c (words_are (c.point.pc ∷ ws) every) (values_are (c.point.pc ∷ ws) every)
     (claim_made c are writable))
 
-hex_inner : (a : ℕ) → IsWord a → list_all is_inner (hex4 a) ≡ true
-hex_inner a below =
-    and_from _ _ (inner (a / 256 / 16) (omega (arith, below))) (and_from _ _ (inner (a / 256 % 16) (omega arith))
-    (and_from _ _ (inner (a % 256 / 16) (omega arith)) (and_from _ _ (inner (a % 256 % 16) (omega arith)) refl)))
-
-words_inner : (ws : List ℕ) → All IsWord ws → list_all is_inner (words_text ws) ≡ true
-words_inner [] all = refl
-words_inner (w ∷ ws) all =
-    list_all-append is_inner (32 ∷ hex4 w) (words_text ws)
-    ∙ and_from _ _ (hex_inner w (All-head IsWord w ws all)) (words_inner ws (All-tail IsWord w ws all))
-
-body_inner : (c : Claim) → AreWords c → IsWritable c → list_all is_inner (body c) ≡ true
-body_inner c are writable =
-    list_all-append is_inner (hex4 c.point.pc) (words_text (c.low ∷ c.high ∷ c.point.stack.items))
-    ∙ and_from _ _ (hex_inner c.point.pc are.pc) (words_inner (c.low ∷ c.high ∷ c.point.stack.items) (line_words c are writable))
-
-inner_at : (line : List ℕ) → list_all is_inner line ≡ true → (k d : ℕ) → k < length line → is_inner (get_or line k d) ≡ true
-inner_at line all k d within = AllPass-from_list_all is_inner line all k d within
-
-strip_none : (line : List ℕ) → list_all is_inner line ≡ true → 0 < length line → strip_carriage_return line ≡ line
-strip_none line all some =
-    let last = inner_at line all (length line - 1) 0 (omega (arith, some)) in
-    rw (not_true _ (and_parts (not (get_or line (length line - 1) 0 == 10)) _ last).1) refl
-
-line_cut : (line rest : List ℕ) → list_all is_inner line ≡ true → 0 < length line → lines ((line ++ newline) ++ rest) ≡ line ∷ lines rest
-line_cut line rest all some =
-    let text : List ℕ = line ++ (10 ∷ rest) in
-    let place : position_or_len (λ byte. eqb byte 10) text ≡ length line =
-    position_or_len_is (λ byte. eqb byte 10) text (length line) 0 (omega (arith, length-append line (10 ∷ rest)))
-    (λ k below.
-    ap (λ c. eqb c 10) (get_or_append_left line (10 ∷ rest) 0 k below)
-    ∙ not_true _ (and_parts (not (get_or line k 0 == 10)) _ (inner_at line all k 0 below)).0)
-    (λ below. ap (λ c. eqb c 10) (get_or_at line 10 rest 0 (length line) refl)) in
-    let back : drop (length line + 1) text ≡ rest =
-    ap (drop (length line + 1)) (sym (append_assoc line newline rest)) ∙ drop_at (line ++ newline) rest (length line + 1) (length-append line newline) in
-    ap lines (append_assoc line newline rest)
-    ∙ lines_first text (length line) (sym place) (omega (arith, length-append line (10 ∷ rest)))
-    ∙ ap (λ l. strip_carriage_return l ∷ lines (drop (length line + 1) text)) (take_at line (10 ∷ rest) (length line) refl)
-    ∙ ap (λ l. l ∷ lines (drop (length line + 1) text)) (strip_none line all some)
-    ∙ ap (λ r. line ∷ lines r) back
+body_line : (c : Claim) → is_line (body c) ≡ true
+body_line c =
+    let ws = c.low ∷ c.high ∷ c.point.stack.items in
+    ap (λ t. is_line (hex4 c.point.pc ++ t)) (text_behind ws) ∙ line_of_words (hex4 c.point.pc) (map hex4 ws) (hex4_word c.point.pc) (all_words ws)
 
 abbrev AreWritten : List Claim → Type 0
 AreWritten = All (λ c. AreWords c × IsWritable c)
 
-written_lines : (claims : List Claim) → AreWritten claims → lines (family_text claims) ≡ map body claims
+written_lines : (claims : List Claim) → lines (family_text claims) ≡ map body claims
 unfolding family_text
-written_lines [] all = refl
-written_lines (c ∷ claims) all =
-    let here = All-head (λ d. AreWords d × IsWritable d) c claims all in
-    line_cut (body c) (family_text claims) (body_inner c here.0 here.1) (omega arith)
-    ∙ ap (λ ls. body c ∷ ls) (written_lines claims (All-tail (λ d. AreWords d × IsWritable d) c claims all))
+written_lines claims =
+    ap lines (sym (flat_map-map (λ line. line ++ newline) body claims))
+    ∙ lines_ended (map body claims)
+    (list_all-from_AllPass is_line (map body claims) (All-map (λ line. is_line line ≡ true) body claims (λ i d within. body_line (get_or claims i d))))
 
 -- ---- the whole text
 
@@ -285,7 +165,7 @@ unfolding proof_of
 written_accepted e game claims up start words writable rules =
     let text = family_text claims in
     let all : AreWritten claims = λ k c within. (words k c within, writable k c within) in
-    let cut = written_lines claims all in
+    let cut = written_lines claims in
     let says = reads_claims text claims [] [] 0 (rw cut at (read_none claim_format text)) up all in
     let closed = reads_closed text e game claims claims [] [] 0 (rw cut at (read_none (closed_format e game claims) text)) all rules in
     record { count = length claims; is = rw (says, started_there claims start, closed) refl }

@@ -30,7 +30,7 @@ use crate::fault_texts::try_fault_texts;
 use crate::outside::{try_files, try_streams};
 use crate::pattern::number;
 use crate::run::Run;
-use crate::texts::{try_exits, try_game, try_number, try_refusals};
+use crate::texts::{try_game, try_number, try_refusals};
 use anyhow::Context;
 use std::alloc::Global;
 use std::fs;
@@ -163,7 +163,6 @@ fn main(rt: HostRuntime) -> anyhow::Result<()> {
         ("a demonstration game", try_game(rt.alloc())),
         ("refusals", try_refusals(rt.alloc())),
         ("a large number", try_number()),
-        ("exits from the ROM", try_exits()),
         ("texts of faults", try_fault_texts(rt.alloc())),
         ("streams", try_streams()),
         ("files", try_files(&rt)),

@@ -1,9 +1,8 @@
-//! The reports that no words put out, and a game, a number and exits that no words show.
+//! The reports that no words put out, and a game and a number that no words show.
 
 use crate::counts::Counts;
 use asm_core::AsmCause;
 use chip8_source::ImageFault;
-use cycle_check::Exit;
 use std::alloc::Global;
 use vip_byte::{NumFault, read_decimal};
 use vip_outside::MemSink;
@@ -11,15 +10,6 @@ use vip_tools::{Refusal, demo_game, put_refusal};
 
 /// Room for a report.
 const REPORT_ROOM: usize = 80;
-
-/// Which addresses outside the ROM an exit leads to. Where a certificate is found each address of the ROM that is come to has a line, so that all
-/// exits lead out of it.
-const EXITS: &[(u16, bool)] = &[
-    (0x7FFF, true),
-    (0x8000, false),
-    (0x87FF, false),
-    (0x8800, true),
-];
 
 /// The ends of the demonstration game 0.
 const FIRST: &[u8] = &[0xF0, 0x29, 0x3D, 0x3C, 0x6A, 0x47, 0x89, 0x36];
@@ -84,20 +74,5 @@ pub fn try_number() -> Counts<'static> {
     let mut counts = Counts::NONE;
     let number = read_decimal(b"99999999999999999999", u64::MAX);
     counts.add(matches!(number, Err(NumFault::TooLarge)), "20 digits");
-    counts
-}
-
-/// Looks at which exits lead out of the ROM.
-pub fn try_exits() -> Counts<'static> {
-    let mut counts = Counts::NONE;
-    for (to, leaves) in EXITS {
-        let exit = Exit {
-            address: 0x8000,
-            bytes: [0; 3],
-            to: Some(*to),
-            may_return: false,
-        };
-        counts.add(exit.leaves_rom() == *leaves, "an exit");
-    }
     counts
 }
