@@ -1,11 +1,11 @@
 -- Words are refused exactly where a rule is named.
-use Rattle.std.proofs.Common.{◌≡◌, ◌∙◌, ap, ap₂, sym, refl, ℕ, suc, List, [], ◌∷◌, Bool, true, false, Option, Some, None, String, arith, length, map, find, ◌-◌}
+use Rattle.std.proofs.Common.{◌≡◌, ◌∙◌, ap, ap₂, sym, refl, ℕ, suc, List, [], ◌∷◌, Bool, true, false, Option, Some, None, arith, length, find}
 use Rattle.std.specs.List.{list_all, list_any}
 use Rattle.std.specs.Option.{option_or}
 use Rattle.std.specs.Prelude.{not, ◌&&◌, ◌||◌, ◌==◌, if◌then◌else◌, is_none, is_some, option_and_then, option_map}
 use Rattle.std.proofs.lemmas.Bool.{eq-eqb, eqb-false, eqb-true, ne_eqb}
 use Rattle.vip_words.specs.Asked.{any_by, asked_behind, asked_of_verb, bounds_by, check_by, code_by, columns_by, cycles_of, debug_by, demo_by, digest_by, dis_by, edition_by, either_by, entry_of, file_by, help_by, is_mixed, is_mixed_state, is_program, isa_by, lacks_source, link_by, moves_of, place_of, play_by, profile_by, program_by, register_of, resume_by, resumed_by, run_by, safe_by, save_by, seed_of, source_by, start_by, timing_by, trace_by, two_registers, version_by, within_by}
-use Rattle.vip_words.specs.Broken.{RefusedByRule, alone, apart, board_pairs, both_given, broken_after, broken_behind, broken_form, broken_given, broken_words, dues, first_broken, is_due, miscounted, misread, names_of, needs_source, pairs, run_pairs, same_number, same_register, unknown}
+use Rattle.vip_words.specs.Broken.{RefusedByRule, alone, apart, board_pairs, both_given, broken_after, broken_behind, broken_form, broken_given, dues, miscounted, misread, names_of, needs_source, pairs, run_pairs, same_number, same_register, unknown}
 use Rattle.vip_words.specs.Request.{Asked}
 use Rattle.vip_words.specs.Rules.{Given, Word, every_option, flag_option, given_by, has_values, is_accepted, is_given, is_known, is_once, keys_value, positional_words}
 use Rattle.vip_words.specs.Table.{Row, is_alone, is_why, places_of, row, verb_of}
@@ -183,7 +183,7 @@ run_none (Some x) f None = refl
 run_none (Some x) f (Some n) = refl
 
 started : {S : Type 0} (state tall asm : Bool) (x y : S)
-    → not (is_some (if state then (if tall || asm then None else Some x) else Some y)) ≡ (state && (tall || asm))
+    → not (is_some (if state then (if tall || asm then None else Some x) else Some y)) ≡ ((state && tall) || ((state && asm) || false))
 started true true asm x y = refl
 started true false true x y = refl
 started true false false x y = refl
@@ -194,114 +194,77 @@ either_none : (is_program mixed started last : Bool) (a b : Option Asked) → is
 either_none true mixed started last a b here there = here
 either_none false mixed started last a b here there = there
 
-state_pairs : (state tall asm : Bool) → ((state && tall) || ((state && asm) || false)) ≡ (state && (tall || asm))
-state_pairs false tall asm = refl
-state_pairs true true asm = refl
-state_pairs true false true = refl
-state_pairs true false false = refl
+-- a saved state beside an edition or a source
+abbrev is_mixed_start : Given → Bool
+is_mixed_start given = (given.has flag.State && given.has flag.Tall) || ((given.has flag.State && given.has flag.Asm) || false)
 
-game_pairs : (rom ram state tall screen words at asm : Bool)
-    → ((rom && ram) || ((rom && state) || ((rom && tall) || ((rom && screen) || ((rom && words) || ((rom && at)
-    || ((ram && state) || ((ram && tall) || ((ram && screen) || ((ram && words) || ((ram && at)
-    || ((state && tall) || ((state && asm) || false)))))))))))))
-    ≡ (if rom || ram then (rom && ram) || (state || (tall || (screen || (words || (at || false))))) else state && (tall || asm))
-game_pairs true true state tall screen words at asm = refl
-game_pairs true false true tall screen words at asm = refl
-game_pairs true false false true screen words at asm = refl
-game_pairs true false false false true words at asm = refl
-game_pairs true false false false false true at asm = refl
-game_pairs true false false false false false true asm = refl
-game_pairs true false false false false false false asm = refl
-game_pairs false true true tall screen words at asm = refl
-game_pairs false true false true screen words at asm = refl
-game_pairs false true false false true words at asm = refl
-game_pairs false true false false false true at asm = refl
-game_pairs false true false false false false true asm = refl
-game_pairs false true false false false false false asm = refl
-game_pairs false false state tall screen words at asm = state_pairs state tall asm
+program_or_run : (file cycles : Word) (given : Given) (shown : Show Word) (program_shown : ProgramShow Word)
+    → is_none (if is_program given then program_by file cycles given program_shown else run_by file cycles given shown)
+    ≡ ((if is_program given then is_mixed given else is_mixed_start given) || not (is_some (cycles_of cycles)))
+program_or_run file cycles given shown program_shown =
+    either_none (is_program given) (is_mixed given) (is_mixed_start given) (not (is_some (cycles_of cycles))) _ _ (program_none (is_mixed given) _ (cycles_of cycles))
+    (run_none (start_by file given) _ (cycles_of cycles)
+    ∙ ap (λ b. b || not (is_some (cycles_of cycles))) (started (given.has flag.State) (given.has flag.Tall) (given.has flag.Asm) _ _))
 
-run_refused : (file cycles : Word) (given : Given) (shown : Show Word)
-    → is_none (run_by file cycles given shown) ≡ ((given.has flag.State && (given.has flag.Tall || given.has flag.Asm)) || not (is_some (cycles_of cycles)))
-run_refused file cycles given shown =
-    run_none (start_by file given) _ (cycles_of cycles)
-    ∙ ap (λ b. b || not (is_some (cycles_of cycles))) (started (given.has flag.State) (given.has flag.Tall) (given.has flag.Asm) _ _)
+-- the rule that the words of a run break, whose options refuse each other by these pairs
+abbrev run_broken : List (Flag × Flag) → Word → Given → Rule Word → Option (Rule Word)
+run_broken ps cycles given r =
+    option_or (if is_some (cycles_of cycles) then None else Some r) (option_or (needs_source given) (option_map apart (find (both_given given) ps)))
+
+-- They break one exactly where they ask for nothing; what they ask for counts where no source is lacking.
+run_refused : (ps : List (Flag × Flag)) (cycles : Word) (given : Given) (r : Rule Word) (asked : Bool → Option Asked) (mixed : Bool)
+    → is_none (asked false) ≡ (mixed || not (is_some (cycles_of cycles))) → list_any (both_given given) ps ≡ mixed
+    → is_some (run_broken ps cycles given r) ≡ is_none (if lacks_source given then None else asked (lacks_source given))
+run_refused ps cycles given r asked mixed none pairs_are = by (lacks_source given)
+  where
+    by : (b : Bool)
+        → is_some (option_or (if is_some (cycles_of cycles) then None else Some r)
+        (option_or (if b then Some (rule.Needs flag.Source flag.Asm) else None) (option_map apart (find (both_given given) ps))))
+        ≡ is_none (if b then None else asked b)
+    by true = read_or_pair (is_some (cycles_of cycles)) r _
+    by false =
+        read_or_pair (is_some (cycles_of cycles)) r _ ∙ (ap (λ b. b || not (is_some (cycles_of cycles))) (found_pair given ps ∙ pairs_are) ∙ sym none)
+
+-- of a program, or of the language
+run_mixed : (given : Given) (rom ram state : Bool) → given.has flag.Rom ≡ rom → given.has flag.Ram ≡ ram → given.has flag.State ≡ state
+    → list_any (both_given given) run_pairs ≡ (if is_program given then is_mixed given else is_mixed_start given)
+run_mixed given true true state r m s = rw (r, m) refl
+run_mixed given true false true r m s = rw (r, m, s) refl
+run_mixed given true false false r m s = rw (r, m, s) refl
+run_mixed given false true true r m s = rw (r, m, s) refl
+run_mixed given false true false r m s = rw (r, m, s) refl
+run_mixed given false false state r m s = rw (r, m) refl
 
 either_refused : (file cycles : Word) (given : Given) (shown : Show Word) (program_shown : ProgramShow Word) (r : Rule Word)
-    → is_some (option_or (if is_some (cycles_of cycles) then None else Some r) (option_or (needs_source given) (option_map apart (find (both_given given) run_pairs))))
-    ≡ is_none (either_by file cycles given shown program_shown)
-either_refused file cycles given shown program_shown r = by (lacks_source given)
-  where
-    last : Bool
-    last = not (is_some (cycles_of cycles))
+    → is_some (run_broken run_pairs cycles given r) ≡ is_none (either_by file cycles given shown program_shown)
+either_refused file cycles given shown program_shown r =
+    run_refused run_pairs cycles given r (λ lacks. if is_program given then program_by file cycles given program_shown else run_by file cycles given shown) _
+    (program_or_run file cycles given shown program_shown) (run_mixed given _ _ _ refl refl refl)
 
-    by : (b : Bool)
-        → is_some (option_or (if is_some (cycles_of cycles) then None else Some r)
-        (option_or (if b then Some (rule.Needs flag.Source flag.Asm) else None) (option_map apart (find (both_given given) run_pairs))))
-        ≡ is_none (if b then None else if is_program given then program_by file cycles given program_shown else run_by file cycles given shown)
-    by true = read_or_pair (is_some (cycles_of cycles)) r _
-    by false =
-        read_or_pair (is_some (cycles_of cycles)) r _
-        ∙ ap (λ b. b || last) (found_pair given run_pairs ∙ game_pairs (given.has flag.Rom) (given.has flag.Ram) (given.has flag.State) (given.has flag.Tall)
-        (given.has flag.Screen) (given.has flag.Words) (given.has flag.At) (given.has flag.Asm))
-        ∙ sym (either_none (is_program given) (is_mixed given) (given.has flag.State && (given.has flag.Tall || given.has flag.Asm)) last _ _
-        (program_none (is_mixed given) _ (cycles_of cycles)) (run_refused file cycles given shown))
-
--- a run of a program's saved state, of a program, or of the language
-board_table : (rom ram state tall screen words at asm : Bool)
-    → ((rom && ram) || ((rom && tall) || ((rom && screen) || ((rom && words) || ((rom && at)
-    || ((ram && tall) || ((ram && screen) || ((ram && words) || ((ram && at)
-    || ((state && tall) || ((state && asm) || false)))))))))))
-    ≡ (if (rom || ram) && state then (rom && ram) || (tall || (screen || (words || (at || (asm || false)))))
-    else (if rom || ram then (rom && ram) || (state || (tall || (screen || (words || (at || false))))) else state && (tall || asm)))
-board_table true true true tall screen words at asm = refl
-board_table true true false tall screen words at asm = refl
-board_table true false true true screen words at asm = refl
-board_table true false true false true words at asm = refl
-board_table true false true false false true at asm = refl
-board_table true false true false false false true asm = refl
-board_table true false true false false false false asm = refl
-board_table true false false true screen words at asm = refl
-board_table true false false false true words at asm = refl
-board_table true false false false false true at asm = refl
-board_table true false false false false false true asm = refl
-board_table true false false false false false false asm = refl
-board_table false true true true screen words at asm = refl
-board_table false true true false true words at asm = refl
-board_table false true true false false true at asm = refl
-board_table false true true false false false true asm = refl
-board_table false true true false false false false asm = refl
-board_table false true false true screen words at asm = refl
-board_table false true false false true words at asm = refl
-board_table false true false false false true at asm = refl
-board_table false true false false false false true asm = refl
-board_table false true false false false false false asm = refl
-board_table false false state tall screen words at asm = state_pairs state tall asm
+-- of a program's saved state, of a program, or of the language
+board_mixed : (given : Given) (rom ram state tall : Bool) → given.has flag.Rom ≡ rom → given.has flag.Ram ≡ ram → given.has flag.State ≡ state
+    → given.has flag.Tall ≡ tall
+    → list_any (both_given given) board_pairs
+    ≡ (if is_program given && given.has flag.State then is_mixed_state given else if is_program given then is_mixed given else is_mixed_start given)
+board_mixed given true true true tall r m s t = rw (r, m, s) refl
+board_mixed given true true false tall r m s t = rw (r, m, s) refl
+board_mixed given true false true true r m s t = rw (r, m, s, t) refl
+board_mixed given true false true false r m s t = rw (r, m, s, t) refl
+board_mixed given true false false tall r m s t = rw (r, m, s) refl
+board_mixed given false true true true r m s t = rw (r, m, s, t) refl
+board_mixed given false true true false r m s t = rw (r, m, s, t) refl
+board_mixed given false true false tall r m s t = rw (r, m, s) refl
+board_mixed given false false state tall r m s t = rw (r, m) refl
 
 any_refused : (file cycles : Word) (given : Given) (shown : Show Word) (board_shown : BoardShow Word) (r : Rule Word)
-    → is_some (option_or (if is_some (cycles_of cycles) then None else Some r) (option_or (needs_source given) (option_map apart (find (both_given given) board_pairs))))
-    ≡ is_none (any_by file cycles given shown board_shown)
-any_refused file cycles given shown board_shown r = by (lacks_source given)
-  where
-    last : Bool
-    last = not (is_some (cycles_of cycles))
-
-    started_by : Bool
-    started_by = given.has flag.State && (given.has flag.Tall || given.has flag.Asm)
-
-    by : (b : Bool)
-        → is_some (option_or (if is_some (cycles_of cycles) then None else Some r)
-        (option_or (if b then Some (rule.Needs flag.Source flag.Asm) else None) (option_map apart (find (both_given given) board_pairs))))
-        ≡ is_none (if b then None else if is_program given && given.has flag.State then resumed_by file cycles given board_shown
-        else if b then None else if is_program given then program_by file cycles given (program.Board board_shown) else run_by file cycles given shown)
-    by true = read_or_pair (is_some (cycles_of cycles)) r _
-    by false =
-        read_or_pair (is_some (cycles_of cycles)) r _
-        ∙ ap (λ b. b || last) (found_pair given board_pairs ∙ board_table (given.has flag.Rom) (given.has flag.Ram) (given.has flag.State) (given.has flag.Tall)
-        (given.has flag.Screen) (given.has flag.Words) (given.has flag.At) (given.has flag.Asm))
-        ∙ sym (either_none (is_program given && given.has flag.State) (is_mixed_state given) (if is_program given then is_mixed given else started_by) last _ _
-        (program_none (is_mixed_state given) _ (cycles_of cycles))
-        (either_none (is_program given) (is_mixed given) started_by last _ _
-        (program_none (is_mixed given) _ (cycles_of cycles)) (run_refused file cycles given shown)))
+    → is_some (run_broken board_pairs cycles given r) ≡ is_none (any_by file cycles given shown board_shown)
+any_refused file cycles given shown board_shown r =
+    run_refused board_pairs cycles given r
+    (λ lacks. if is_program given && given.has flag.State then resumed_by file cycles given board_shown
+    else if lacks then None else if is_program given then program_by file cycles given (program.Board board_shown) else run_by file cycles given shown) _
+    (either_none (is_program given && given.has flag.State) (is_mixed_state given) _ _ _ _ (program_none (is_mixed_state given) _ (cycles_of cycles))
+    (program_or_run file cycles given shown (program.Board board_shown)))
+    (board_mixed given _ _ _ _ refl refl refl refl)
 
 -- the sources that the program has in it
 built_in_pairs : {S : Type 0} (sender receiver tall : Bool) (x y z : S) (f : S → Asked)

@@ -4,7 +4,6 @@
 use Rattle.std.specs.Prelude.{◌≡◌, ℕ, List, [], ◌∷◌, Bool, true, false, not, ◌&&◌, ◌==◌, if◌then◌else◌, is_none, is_some, Option, Some, None, option_map, bytes_eq, codes, find}
 use Rattle.std.specs.Option.{option_or}
 use Rattle.asm_lex.specs.declared.shape.Isa.{Isa}
-use Rattle.asm_lex.specs.declared.shape.Isa.TheVariants.{Cdp1802, Chip8}
 use Rattle.vip_words.specs.Asked.{asked_by, cycles_of, entry_of, isa_by, lacks_source, moves_of, place_of, register_of, seed_of}
 use Rattle.vip_words.specs.Rules.{Given, Word, every_option, given_by, has_values, is_known, is_once, positional_words}
 use Rattle.vip_words.specs.Table.{Row, is_alone, is_why, places_of, row, verb_of}

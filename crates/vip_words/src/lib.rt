@@ -4,12 +4,13 @@
 //! `asm_lex` for the name of an instruction set and its addresses; it reads no file and knows no board. The layer above may rely on `read_words`: it answers
 //! exactly the request that the rules of `specs/Rules.antt`, `specs/Table.antt` and `specs/Asked.antt` read in the words, and refuses exactly the words in
 //! which they read none; on `first_broken`: it names the first rule of `specs/Broken.antt` that words break, which is one exactly where they are refused
-//! (`refused_by_rule`); and on `why_line` and `remark`, which say that, or what is asked for, as `specs/Why.antt` does. It may rely on `read_commands`: its answer is the list of the commands that a text says, in order, or its first fault, exactly as
-//! `specs/DebugGrammar.antt` says. Want of memory is the one other answer of each. The rules are this project's profile (`docs/COMMANDS.md`).
+//! (`refused_by_rule`); and on `why_line` and `remark`, which say that, or what is asked for, as `specs/Why.antt` does. It may rely on `read_commands`: its
+//! answer is the list of the commands that a text says, in order, or its first fault, exactly as `specs/DebugGrammar.antt` says. Want of memory is the one
+//! other answer of each. The rules are this project's profile (`docs/COMMANDS.md`).
 //!
 //! ```text
-//!     words ──▶ the verb's usage ──▶ each word is plain or an option of it ──▶ clap ──▶ its numbers ──▶ Request
-//!               (table.rt)           (given.rt)                             (command.rt)  (request.rt)
+//!     words ──▶ the verb's usage ──▶ each word is plain or an option of it ──▶ clap ──▶ what the verb asks for ──▶ Request
+//!   (words.rt)     (table.rt)                     (given.rt)               (command.rt)   (runs.rt, tools.rt)   (request.rt)
 //! ```
 //!
 //! Behind `why` the words aren't read so: they are kept, and what is made of them is its text (`src/why.rt`). Of words that are refused the first broken rule is
@@ -22,16 +23,16 @@
 //! | `--keys` takes the next word, which is there and doesn't begin with `-` | `clap` |
 //! | options stand anywhere after the verb, each at most once | `clap` |
 //! | the other words are the positional ones, in order, and as many as the verb takes, or none behind a verb that may stand alone | `clap` |
-//! | behind `help` stands no word, or a verb, spelled exactly | `src/request.rt` |
+//! | behind `help` stands no word, or a verb, spelled exactly | `src/tools.rt` |
 //! | a number of cycles is decimal and at most 4,000,000,000 | `vip_text` |
 //! | the number of a demonstration game, or of a schedule of joined boards, is decimal and at most 4,294,967,295 | `vip_byte` |
 //! | a number of moves of joined boards is decimal and at most 10,000,000 | `src/moves.rt` |
 //! | an address is hexadecimal and at most FFFF, with `--chip8` from 200 to FFF | `src/place.rt` |
-//! | where a routine is entered is an address of one to four hexadecimal digits, and else a name of at most 32 bytes, always behind `:` | `src/request.rt` |
-//! | the program counter and the counter of a routine are two registers, each one hexadecimal digit | `src/request.rt` |
-//! | a program has one of `--rom` and `--ram`, and no option that speaks of a game or its states (`GAME_FLAGS`) | `src/request.rt` |
-//! | a saved state, by `--state`, has its own edition and is no source: `--tall` and `--asm` are refused with it | `src/request.rt` |
-//! | `source` has at most one of `--tall`, `--sender` and `--receiver` | `src/request.rt` |
+//! | where a routine is entered is an address of one to four hexadecimal digits, and else a name of at most 32 bytes, always behind `:` | `src/values.rt` |
+//! | the program counter and the counter of a routine are two registers, each one hexadecimal digit | `src/tools.rt`, `src/values.rt` |
+//! | a program has one of `--rom` and `--ram`, and no option that speaks of a game or its states (`GAME_FLAGS`) | `src/runs.rt` |
+//! | a saved state, by `--state`, has its own edition and is no source: `--tall` and `--asm` are refused with it | `src/runs.rt` |
+//! | `source` has at most one of `--tall`, `--sender` and `--receiver` | `src/tools.rt` |
 //!
 //! One `clap` command serves all verbs with as many positional words: it has every option, and a word that is an option of another verb doesn't come
 //! to it. So a verb is added by its row in the two tables (`src/table.rt`, `specs/Table.antt`), its variant and what its words ask for, which mostly
@@ -49,8 +50,12 @@ mod given;
 mod moves;
 mod place;
 mod request;
+mod runs;
 mod table;
+mod tools;
+mod values;
 mod why;
+mod words;
 
 pub use broken::{Broken, Due, Rule, first_broken, refused_by_rule};
 pub use debug_commands::{
@@ -63,7 +68,7 @@ pub use place::Place;
 pub use request::{
     BoardShow, BuiltIn, Code, Entry, EntryName, FileName, MadeGame, Memory, OwnText, PlainShow,
     ProgramRequest, ProgramShow, Request, ResumedRequest, RunRequest, Show, Start, TextVerb, Words,
-    read_words,
 };
 pub use table::{Row, VERBS, Verb, about, with_value};
 pub use why::{remark, why_line};
+pub use words::read_words;

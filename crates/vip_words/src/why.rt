@@ -10,9 +10,10 @@ use crate::broken::{Broken, Due, Rule, first_broken};
 use crate::given::WordsFail;
 use crate::request::{
     BoardShow, BuiltIn, Code, MadeGame, Memory, OwnText, PlainShow, ProgramRequest, ProgramShow,
-    Request, ResumedRequest, RunRequest, Show, Start, TextVerb, read_words,
+    Request, ResumedRequest, RunRequest, Show, Start, TextVerb,
 };
 use crate::table::Verb;
+use crate::words::read_words;
 use asm_lex::Isa;
 use chip8_lang::Edition;
 use std::alloc::{AllocError, Global};

@@ -1,4 +1,4 @@
-use Rattle.std.proofs.Common.{◌∙◌, ap, sym, Err, None, Some}
+use Rattle.std.proofs.Common.{◌∙◌, ap, sym, Err, Some}
 use Rattle.vip_words.specs.Given.{seen_given}
 use Rattle.vip_words.proofs.Answered.{after_first}
 use Rattle.vip_words.proofs.Asked.{form_broken, given_broken}

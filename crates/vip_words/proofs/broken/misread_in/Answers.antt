@@ -1,4 +1,4 @@
-use Rattle.std.proofs.Common.{◌≡◌, ◌∙◌, ◌≤◌, arith, List, [], ◌∷◌, Option, None, refl, sym, drop, length, map}
+use Rattle.std.proofs.Common.{◌≡◌, ◌∙◌, ◌≤◌, arith, List, [], ◌∷◌, None, refl, sym, drop, length, map}
 use Rattle.vip_words.specs.Broken.{misread}
 use Rattle.vip_words.specs.Rules.{Word}
 use Rattle.vip_words.specs.declared.broken.Due.{Due}

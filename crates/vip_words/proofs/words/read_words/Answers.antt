@@ -7,7 +7,7 @@ use Rattle.vip_words.specs.declared.given.WordsFail.TheVariants.{Refused}
 use Rattle.vip_words.specs.declared.request.Request.{Request}
 use Rattle.vip_words.proofs.Asked.{asked_after, read_is_asked, refused_is_not_asked, why_after, why_is_asked, why_is_not_refused}
 use Rattle.vip_words.proofs.Answered.{after_first}
-use Rattle.vip_words.proofs.request.read_words.Goals as goal
+use Rattle.vip_words.proofs.words.read_words.Goals as goal
 
 pub returns-in-Err-clause-refused : goal.returns-in-Err-clause-refused
 returns-in-Err-clause-refused c = λ (refused : IsErrOf {T = Request (Bor Word)} (Err c.in-Err.fail) Refused).
