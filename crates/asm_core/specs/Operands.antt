@@ -1,6 +1,6 @@
--- What is told of the operands of a line one by one. It hangs on the line, which is read with no names, on which names are given, and, for a range, on
--- the numbers of `fixed`, those names whose values hang on no address and stand in lines that are right: so it stays whatever other lines are mended to,
--- while they give the same names.
+-- What is told of the operands of a line one by one. It hangs on the line, whose operands are read with no names, on which names are given, and, for a
+-- range and for the instruction that it is asked of, on the numbers of `fixed`, those names whose values hang on no address and stand in lines that are
+-- right: so it stays whatever other lines are mended to, while they give the same names.
 use Rattle.std.specs.Prelude.{◌==◌, ◌/◌, ◌&&◌, ◌||◌, ℕ, Bool, true, false, not, List, [], ◌∷◌, nat_le, if◌then◌else◌, codes, Option, None, Some, is_some, option_map, Result, Ok, Err}
 use Rattle.std.specs.Option.{option_or}
 use Rattle.asm_lex.specs.declared.culprit.Sought.TheVariants.{NotGiven}

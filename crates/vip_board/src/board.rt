@@ -153,21 +153,13 @@ impl Board {
         ensures pictures { IfOk result (λ b. HasPicturesSince t b.rom [] b.machine.cycle b.pictures) }
         ensures fits { IfOk result (λ b. FitsMachine b.machine × FitsRom b.rom) }
     {
-        let mut memory = Memory::new(alloc, rom)?;
-        memory.load(0, ram);
-        memory.clear_latch();
-        let mut keypad = Keypad::new(alloc, script)?;
-        keypad.latch(key);
-        let video = Video::at(t);
-        let cpu = Cpu::from_parts(parts);
-        Ok(Board {
-            cpu,
-            wires: Wires {
-                memory,
-                video,
-                keypad,
-            },
-        })
+        let switches = Switches {
+            latch: false,
+            display: true,
+            interrupts: true,
+            idle: false,
+        };
+        Board::stand(alloc, rom, script, parts, ram, key, t, switches)
     }
 
     /// A board that stands at a boundary before machine cycle t, in any machine: with a processor of these parts, a ROM of 2,048 bytes, a key script, 4,096
@@ -187,7 +179,8 @@ impl Board {
         requires key { key < 16 }
         requires p { parts.now.p < 16 }
         requires x { parts.now.x < 16 }
-        ensures { IfOk result (λ b. b ≡ record { machine = record { regs = record (regs_of parts.now) { ie = switches.interrupts; idle = switches.idle }; ram = ram.now; latch = switches.latch; on = switches.display; key = key; cycle = t }; phase = Phase.Boundary; pictures = nothing_before t; rom = rom.now; script = script.now }) }
+        ensures board { IfOk result (λ b. b ≡ record { machine = record { regs = record (regs_of parts.now) { ie = switches.interrupts; idle = switches.idle }; ram = ram.now; latch = switches.latch; on = switches.display; key = key; cycle = t }; phase = Phase.Boundary; pictures = nothing_before t; rom = rom.now; script = script.now }) }
+        ensures fits { IfOk result (λ b. FitsMachine b.machine × FitsRom b.rom) }
     {
         let memory = memory_with(alloc, rom, ram, switches.latch)?;
         let keypad = keypad_with(alloc, script, key)?;

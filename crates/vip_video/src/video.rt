@@ -49,15 +49,8 @@ impl Video {
         Video::before(0, false)
     }
 
-    /// A chip before machine cycle t, with the display on, also in that cycle, and no picture. The frame that is under way has a picture
-    /// only where its interrupt starts at or after t.
-    pub fn at(t: u64) -> Video
-        ensures { result ≡ at_cycle t true }
-    {
-        Video::before(t, true)
-    }
-
-    /// A chip before machine cycle t, with the display on or off, also in that cycle, and no picture.
+    /// A chip before machine cycle t, with the display on or off, also in that cycle, and no picture. The frame that is under way has a
+    /// picture only where its interrupt starts at or after t.
     pub fn before(t: u64, on: bool) -> Video
         ensures { result ≡ at_cycle t on }
     {
