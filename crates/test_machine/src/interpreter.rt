@@ -4,8 +4,8 @@
 //! gives the bytes at that part's addresses and no others. Some thousand frames of random games and each instruction of
 //! `data/costs.txt` are measured: the most machine cycles of each kind of step, which `docs/MACHINE.md` sets beside the bounds, the place
 //! and the length of each interrupt, each picture against the screen of the last dispatch point before it, whether each window has one, and whether
-//! an interrupt comes between a write to the screen and the next dispatch point. The same is said of the wrong interpreters of `data/wrong.txt`, of
-//! which a law of `rom_run` is false, so that it shows there.
+//! an interrupt comes between a write to the screen and the next dispatch point. The same is said of the wrong interpreters of `data/wrong.txt`, and at
+//! how many points the language doesn't lead on from the one before: a law of `rom_run` is false of each, so that it shows there.
 //!
 //! Then machine states in files are made by random numbers, and each is gone on from: every point is compared with the step of the language from the
 //! one before it, as `docs/LANGUAGE.md` has it. Then runs of random games are saved and gone on with, and compared with the trace in one go. Last, runs that
@@ -19,6 +19,7 @@ mod costs;
 mod cuts;
 mod edition;
 mod files;
+mod follower;
 mod game;
 mod language;
 mod numbers;
@@ -82,8 +83,8 @@ fn run_wrong_ones(
         if !line.starts_with('#') {
             let wrong = Wrong::read(edition, line).context("not a wrong interpreter")?;
             let mut watch = Watch::new(key_tests);
-            wrong.run(rt.alloc(), edition, &mut watch);
-            write_wrong(rt, wrong.name, &watch)?;
+            let came = wrong.run(rt.alloc(), edition, &mut watch)?;
+            write_wrong(rt, wrong.name, &came, &watch)?;
         }
     }
     Ok(())

@@ -72,6 +72,10 @@ impl Console {
         })
     }
 
+    pub fn board(&self) -> &Board {
+        &self.board
+    }
+
     pub fn places(&self) -> &Places {
         &self.places
     }

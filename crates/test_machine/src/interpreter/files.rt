@@ -1,10 +1,11 @@
 //! Machine states in files, made by random numbers: each accepted one goes on as the language says.
 
 use crate::interpreter::edition::{EDITIONS, GAME, Places};
-use crate::interpreter::language::{Language, State};
+use crate::interpreter::follower::Follower;
 use crate::interpreter::numbers::Numbers;
+use crate::interpreter::watch::{FRAME, INTERRUPT, WINDOW_END};
 use chip8_image::{ENTRY, TALL_ENTRY};
-use chip8_lang::{Edition, StopRecord};
+use chip8_lang::Edition;
 use std::alloc::Global;
 use vip_keypad::Script;
 use vip_relation::{Met, Run};
@@ -19,13 +20,6 @@ const FILE: usize = 51 + 0x1000;
 /// The limit up to which each goes on, in machine cycles.
 const LIMIT: u64 = 200_000;
 
-/// The cycles of a frame, the cycle of its interrupt, and that in which its window has ended.
-const FRAME: u64 = 3_668;
-
-const INTERRUPT: u64 = 1_092;
-
-const WINDOW_END: u64 = 2_912;
-
 /// What was seen of the files.
 #[derive(Clone, Copy)]
 pub struct Seen {
@@ -35,6 +29,15 @@ pub struct Seen {
     pub stops: u64,
     /// Steps and stops that aren't those of the language.
     pub wrong: u64,
+}
+
+impl Seen {
+    /// Counts a step or a stop that isn't that of the language.
+    fn judge(&mut self, right: bool) {
+        if !right {
+            self.wrong = self.wrong.saturating_add(1);
+        }
+    }
 }
 
 impl Numbers {
@@ -134,11 +137,6 @@ impl File {
     }
 }
 
-/// How many interrupts come before a cycle.
-fn interrupts_before(cycle: u64) -> u64 {
-    cycle.saturating_add(FRAME - INTERRUPT - 1) / FRAME
-}
-
 /// Makes random files, and goes on from each.
 pub fn run_files(alloc: Global) -> Seen {
     let keys = Script::empty(alloc);
@@ -164,41 +162,21 @@ pub fn run_files(alloc: Global) -> Seen {
 
 /// Goes on from a file up to the limit, and compares each point with the step of the one before it.
 fn go_on(run: &mut Run, seen: &mut Seen) {
-    let edition = run.edition();
-    let mut language = Language::on(run.board(), Places::of(edition));
-    let view = run.view();
-    let mut from = State::of(&view);
-    let mut cycle = view.cycle;
+    let mut follower = Follower::at(run.board(), run.edition(), None);
     for _ in 0..LIMIT {
         match run.advance(Limit::up_to(LIMIT)) {
             Met::Dispatch => {
-                let view = run.view();
-                let to = State::of(&view);
-                let ticks = to.n().wrapping_sub(from.n());
-                let passed = interrupts_before(view.cycle).saturating_sub(interrupts_before(cycle));
-                let right = u64::from(ticks) == passed && language.leads(&from, &to, ticks);
-                let writes = language.act(&from);
                 seen.steps = seen.steps.saturating_add(1);
-                if !right || writes && !language.is_on(run.board()) {
-                    seen.wrong = seen.wrong.saturating_add(1);
-                }
-                from = to;
-                cycle = view.cycle;
+                seen.judge(follower.leads_to(run.board()));
             }
             Met::Picture => {}
-            Met::Stopped(stop) => {
+            Met::Stopped(record) => {
                 seen.stops = seen.stops.saturating_add(1);
-                if !stops(&language, &from, &stop) {
-                    seen.wrong = seen.wrong.saturating_add(1);
-                }
+                let right = follower.opcode(record.pc) == record.opcode;
+                seen.judge(right && follower.stops(run.board(), record.stop));
                 return;
             }
             Met::End => return,
         }
     }
-}
-
-/// Whether this is the stop of a state.
-fn stops(language: &Language, from: &State, stop: &StopRecord) -> bool {
-    language.opcode(stop.pc) == stop.opcode && language.step(from) == Err(stop.stop)
 }

@@ -159,6 +159,8 @@ pub struct Language {
     /// RAM up to the end of game memory.
     memory: [u8; 0x1000],
     screen: [u8; MOST_SCREEN],
+    /// The key that is let go while a step may wait for it.
+    pub let_go: Option<u8>,
 }
 
 impl Language {
@@ -172,6 +174,7 @@ impl Language {
             places,
             memory,
             screen,
+            let_go: None,
         }
     }
 
@@ -262,6 +265,7 @@ impl Language {
         let count = opcode / 256 % 16 + 1;
         match opcode % 256 {
             0x07 => to.v[x] = to.dt,
+            0x0A => to.v[x] = self.let_go.unwrap_or(0),
             0x15 => to.dt = to.v[x],
             0x18 => to.st = to.v[x],
             0x1E => to.i = to.i.wrapping_add(u16::from(to.v[x])),
@@ -334,7 +338,7 @@ impl Language {
         let opcode = self.opcode(from.pc).unwrap_or(0);
         let vx = from.v[usize::from(opcode / 256 % 16)];
         match (opcode / 0x1000, opcode % 256) {
-            (0, _) => self.screen.fill(0),
+            (0, _) if opcode == 0x00E0 => self.screen.fill(0),
             (0xD, _) => self.draw(from, opcode),
             (0xF, 0x33) => self.store(from.i, &[vx / 100, vx / 10 % 10, vx % 10]),
             (0xF, 0x55) => self.store(from.i, &from.v[..usize::from(opcode / 256 % 16) + 1]),
@@ -365,9 +369,12 @@ impl Language {
     }
 
     /// Whether one step leads from a state to another, with so many ticks between: those before the step, and the others behind it. Before a display
-    /// wait's step are all of them, and one at least.
+    /// wait's step are all of them, and one at least. FX0A has no step where no key is let go.
     pub fn leads(&self, from: &State, to: &State, ticks: u16) -> bool {
         let opcode = self.opcode(from.pc).unwrap_or(0);
+        if opcode / 0x1000 == 0xF && opcode % 256 == 0x0A && self.let_go.is_none() {
+            return false;
+        }
         let waits = opcode == 0x00E0 || opcode / 0x1000 == 0xD;
         let first = if waits { ticks.max(1) } else { 0 };
         (first..=ticks).any(|early| match self.step(&from.tick(early)) {

@@ -6,6 +6,7 @@ use crate::interpreter::edition::name;
 use crate::interpreter::files::Seen;
 use crate::interpreter::source::Form;
 use crate::interpreter::watch::Watch;
+use crate::interpreter::wrong::Came;
 use chip8_lang::Edition;
 
 const FORM: &str = "  # instructions, # lines of data outside the font and the dispatch table
@@ -18,8 +19,10 @@ const FRAMES: &str = "  # dispatch points, # frames, # interrupts, # of them not
   # interrupts between a write to the screen and the next dispatch point
 ";
 
+/// Dispatch points and stops to which no step of the language leads; the cycles behind the last dispatch point; interrupts between a write to the screen
+/// and the next dispatch point; main code from a dispatch point to the routine of its opcode, and of DXYN up to the wait.
 const WRONG: &str =
-    ": # dispatch points, # pictures of # windows, # interrupts between a write to the screen and the next dispatch point\n";
+    ": # dispatch points, # not of the language, # cycles behind the last; # pictures of # windows, # torn; # to # cycles to the routine, # to the wait\n";
 
 /// The most cycles of each kind of step, beside its bound, and of its parts.
 const COSTS: &str = "  boot: # of at most 1000 cycles, # of main code
@@ -96,9 +99,20 @@ pub fn write_frames(
 }
 
 /// Writes what was seen of a wrong interpreter.
-pub fn write_wrong(rt: &HostRuntime, name: &str, watch: &Watch) -> anyhow::Result<()> {
+pub fn write_wrong(rt: &HostRuntime, name: &str, came: &Came, watch: &Watch) -> anyhow::Result<()> {
     print!(rt; "  {name}")?;
-    let numbers = [watch.dispatches, watch.pictures, watch.windows, watch.torn];
+    let dispatch = &watch.costs.dispatch;
+    let numbers = [
+        watch.dispatches,
+        came.wrong,
+        came.behind,
+        watch.pictures,
+        watch.windows,
+        watch.torn,
+        dispatch.least.min(dispatch.most),
+        dispatch.most,
+        watch.costs.prepare,
+    ];
     write(rt, WRONG, &numbers)
 }
 

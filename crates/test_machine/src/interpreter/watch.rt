@@ -7,12 +7,12 @@ use vip_board::{Move, Moved};
 use vip_video::Picture;
 
 /// The cycles of a frame, and the one at which the interrupt is to be taken.
-const FRAME: u64 = 3_668;
+pub const FRAME: u64 = 3_668;
 
-const INTERRUPT: u64 = 1_092;
+pub const INTERRUPT: u64 = 1_092;
 
 /// The cycle of a frame at which its window has ended.
-const WINDOW_END: u64 = 2_912;
+pub const WINDOW_END: u64 = 2_912;
 
 /// The lines of a picture.
 const LINES: usize = 128;
@@ -75,12 +75,31 @@ impl Watch {
 
     /// Runs a board that was just reset up to its stop point or to a limit.
     pub fn run(&mut self, console: &mut Console, limit: u64) {
+        self.begin(console);
+        for _ in 0..=limit {
+            if !self.go_on(console, limit) {
+                break;
+            }
+        }
+        self.end(console);
+    }
+
+    /// Begins the run of a board that was just reset.
+    pub fn begin(&mut self, console: &Console) {
         self.screen = [0; MOST_SCREEN];
         self.interval = Interval::new(Kind::Boot, console.now());
         self.in_routine_since = None;
         self.has_written = false;
         self.pictures_before = 0;
-        self.run_on(console, limit);
+    }
+
+    /// The cycle of the last dispatch point of the run, or the one in which it began.
+    pub fn since(&self) -> u64 {
+        self.interval.since
+    }
+
+    /// Ends the run of a board.
+    pub fn end(&mut self, console: &Console) {
         let end = console.now();
         self.frames = self
             .frames
@@ -90,20 +109,25 @@ impl Watch {
             .saturating_add(end.saturating_add(FRAME - WINDOW_END) / FRAME);
     }
 
-    fn run_on(&mut self, console: &mut Console, limit: u64) {
-        for _ in 0..=limit {
-            let next = console.next();
-            match next {
-                Next::Dispatch => self.dispatch(console),
-                Next::Stop => return self.stop(console),
-                Next::Main(_, _) if console.writes_screen() => self.has_written = true,
-                _ => {}
+    /// Makes the next move. Answers whether it was made: not at the stop point, nor where it would end after a limit.
+    pub fn go_on(&mut self, console: &mut Console, limit: u64) -> bool {
+        let next = console.next();
+        match next {
+            Next::Dispatch => self.dispatch(console),
+            Next::Stop => {
+                self.stop(console);
+                return false;
             }
-            let before = console.now();
-            match console.step(limit) {
-                Moved::Done(made) => self.note_move(console, next, made, before),
-                Moved::End => return,
+            Next::Main(_, _) if console.writes_screen() => self.has_written = true,
+            _ => {}
+        }
+        let before = console.now();
+        match console.step(limit) {
+            Moved::Done(made) => {
+                self.note_move(console, next, made, before);
+                true
             }
+            Moved::End => false,
         }
     }
 
