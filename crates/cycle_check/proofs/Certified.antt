@@ -25,7 +25,7 @@ use Rattle.cycle_check.specs.Closed.{byte_at, fault_in, fits_x, instruction_at, 
 use Rattle.cycle_check.specs.Exits.{exit_on, exits, exits_at, in_order, next_of}
 use Rattle.cycle_check.specs.Forward.{AreMade}
 use Rattle.cycle_check.specs.Found.{IsCertificate, IsFoundFrom, leaves_rom, timing_text}
-use Rattle.cycle_check.specs.Obstacles.{AreAllowed, AreClosed, AreLowSteps, HasLowBase, IsOfByte, IsOneOf, IsReached, IsRefused, IsWay, Reached, without_costs}
+use Rattle.cycle_check.specs.Obstacles.{AreAllowed, AreClosed, AreLowSteps, ArePaced, HasLowBase, IsOfByte, IsOneOf, IsReached, IsRefused, IsWay, Reached, without_costs}
 use Rattle.cycle_check.specs.Obstacles.Met.{Enters}
 use Rattle.cycle_check.specs.Obstacles.Reached.{Reaches, Starts}
 use Rattle.cycle_check.specs.Table.{flow_of, ways_of, x_after}
@@ -289,7 +289,8 @@ module _ (rom : List ℕ) (bound : Bound) (lines : List Line) (made : AreMade ro
 
     -- ---- the text
 
-    module _ (bytes : (a : ℕ) → slice_index rom a < 256) (closed : AreClosed rom bound lines) (allowed : AreAllowed rom bound lines)
+    module _ (bytes : (a : ℕ) → slice_index rom a < 256) (closed : AreClosed rom bound lines) (paced : ArePaced rom bound lines)
+        (allowed : AreAllowed rom bound lines)
         (bases : (address : ℕ) → HasLowBase lines address) (steps : AreLowSteps lines) (apart : bound.p ≡ bound.k → ⊥) (p : bound.p ≤ 15) (k : bound.k ≤ 15) where
       abbrev limited : Bound
       limited = record bound { limit = left line 255 }
@@ -345,6 +346,7 @@ module _ (rom : List ℕ) (bound : Bound) (lines : List Line) (made : AreMade ro
         lines = lines;
         of_ways = made.of_ways;
         least = made.least;
+        paced = paced;
         is = is;
         certificate = subst (IsCertificate rom bound.entry bound.p bound.k) (sym is) certified;
       }

@@ -4,49 +4,86 @@ use Rattle.std.specs.List.{All, sum_by}
 use Rattle.std.specs.Prelude.{IfSome}
 use Rattle.std.proofs.Math.ListN.{set}
 use Rattle.std.proofs.lemmas.List.{get_or-map, length-map, map_more}
-use Rattle.std.proofs.lemmas.List.Elements.{All-map, All-set}
+use Rattle.std.proofs.Math.Seq.{map-set_same}
+use Rattle.std.proofs.lemmas.List.Elements.{All-map}
 use Rattle.std.proofs.lemmas.List.Sums.{sum_by-set}
 use Rattle.cycle_check.specs.declared.grammar.Bound.{Bound}
 use Rattle.cycle_check.specs.declared.grammar.Line.{Line}
 use Rattle.cycle_check.specs.Certificate.{most_left}
 use Rattle.cycle_check.specs.Closed.{cause_at, first_from, instruction_at, is_allowed, is_closed, line_at}
 use Rattle.cycle_check.specs.Forward.{AreMade, IsOpenAt, level}
-use Rattle.cycle_check.specs.Obstacles.{AreReached, HasLowBase, level_step, most_straight, without_costs}
+use Rattle.cycle_check.specs.Obstacles.{AreReached, HasLowBase, level_step, most_straight, with_base, without_costs}
+use Rattle.cycle_check.specs.Pace.{DifferInBases}
 use Rattle.cycle_check.specs.Reading.{AreRising, AreStrict}
 use Rattle.cycle_check.proofs.Drawing.{found_all}
 use Rattle.cycle_check.proofs.Lookup.{address_of-found}
 use Rattle.cycle_check.proofs.Raised.{none_least}
 
-level_bare : (lines : List Line) → map without_costs (map level lines) ≡ map without_costs lines
-level_bare [] = refl
-level_bare (line ∷ lines) = ap (λ others. without_costs line ∷ others) (level_bare lines)
+-- ---- lines with STEPs of their own and no BASE
 
-level_rising : (lines : List Line) → AreRising lines → AreRising (map level lines)
-level_rising lines rising i j d le lt =
-    let low : j < length lines = rw length-map at lt in
-    rw (get_or-map level lines i d d (omega (arith, le, low)), get_or-map level lines j d d low) (rising i j d le low)
+module _ (step : Line → ℕ) where
+  abbrev flat : Line → Line
+  flat line = record line { base = 0; step = step line }
 
-level_strict : (lines : List Line) → AreStrict lines → AreStrict (map level lines)
-level_strict lines strict i j d less lt =
-    let low : j < length lines = rw length-map at lt in
-    rw (get_or-map level lines i d d (omega (arith, less, low)), get_or-map level lines j d d low) (strict i j d less low)
+  flat_bare : (lines : List Line) → map without_costs (map flat lines) ≡ map without_costs lines
+  flat_bare [] = refl
+  flat_bare (line ∷ lines) = ap (λ others. without_costs line ∷ others) (flat_bare lines)
 
-pub level_made : (rom : List ℕ) (bound : Bound) (lines : List Line) → AreMade rom bound lines → AreMade rom bound (map level lines)
-level_made rom bound lines made = record {
-  rising = level_rising lines made.rising;
-  strict = level_strict lines made.strict;
-  of_ways = subst (AreReached rom bound) (sym (level_bare lines)) made.of_ways;
-  least = none_least rom bound (map level lines) (All-map (λ (l : Line). l.base ≡ 0) level lines (λ i d within. refl));
-}
+  flat_rising : (lines : List Line) → AreRising lines → AreRising (map flat lines)
+  flat_rising lines rising i j d le lt =
+      let low : j < length lines = rw length-map at lt in
+      rw (get_or-map flat lines i d d (omega (arith, le, low)), get_or-map flat lines j d d low) (rising i j d le low)
+
+  flat_strict : (lines : List Line) → AreStrict lines → AreStrict (map flat lines)
+  flat_strict lines strict i j d less lt =
+      let low : j < length lines = rw length-map at lt in
+      rw (get_or-map flat lines i d d (omega (arith, less, low)), get_or-map flat lines j d d low) (strict i j d less low)
+
+  pub flat_made : (rom : List ℕ) (bound : Bound) (lines : List Line) → AreMade rom bound lines → AreMade rom bound (map flat lines)
+  flat_made rom bound lines made = record {
+    rising = flat_rising lines made.rising;
+    strict = flat_strict lines made.strict;
+    of_ways = subst (AreReached rom bound) (sym (flat_bare lines)) made.of_ways;
+    least = none_least rom bound (map flat lines) (All-map (λ (l : Line). l.base ≡ 0) flat lines (λ i d within. refl));
+  }
 
 pub level_steps : (lines : List Line) → All (λ (l : Line). l.step ≡ level_step) (map level lines)
 level_steps lines = All-map (λ (l : Line). l.step ≡ level_step) level lines (λ i d within. refl)
 
 -- one more of the lines
-pub one_leveled : (old new lines : List Line) (i : ℕ) (d : Line) → i < length lines → old ≡ map level (take i lines)
-    → new ≡ old ++ level (get_or lines i d) ∷ [] → new ≡ map level (take (i + 1) lines)
-one_leveled old new lines i d within is more =
-    more ∙ ap (λ (items : List Line). items ++ level (get_or lines i d) ∷ []) is ∙ sym (map_more level lines i d within)
+pub one_mapped : (f : Line → Line) (old new lines : List Line) (i : ℕ) (d : Line) → i < length lines → old ≡ map f (take i lines)
+    → new ≡ old ++ f (get_or lines i d) ∷ [] → new ≡ map f (take (i + 1) lines)
+one_mapped f old new lines i d within is more =
+    more ∙ ap (λ (items : List Line). items ++ f (get_or lines i d) ∷ []) is ∙ sym (map_more f lines i d within)
+
+-- ---- lines that differ in their BASEs
+
+pub differ_more : (old lines new : List Line) → DifferInBases old lines → DifferInBases lines new → DifferInBases old new
+differ_more old lines new before now base = now base ∙ before base
+
+pub raised_differ : (lines : List Line) (place to : ℕ) (line : Line) → ((d : Line) → get_or lines place d ≡ line)
+    → DifferInBases lines (set lines place (record line { base = to }))
+raised_differ lines place to line there base =
+    map-set_same (with_base base) lines place (record line { base = to }) line (sym (ap (with_base base) (there line)))
+
+module _ (old new : List Line) (differ : DifferInBases old new) where
+  pub same_length : length new ≡ length old
+  same_length =
+      let f : Line → Line = with_base (λ a. 0) in
+      sym (length-map new f) ∙ ap (λ (ls : List Line). length ls) (differ (λ a. 0)) ∙ length-map old f
+
+  same_but : (i : ℕ) (d : Line) → i < length new → with_base (λ a. 0) (get_or new i d) ≡ with_base (λ a. 0) (get_or old i d)
+  same_but i d within =
+      let f : Line → Line = with_base (λ a. 0) in
+      sym (get_or-map f new i d d within) ∙ ap (λ (ls : List Line). get_or ls i d) (differ (λ a. 0))
+      ∙ get_or-map f old i d d (omega (arith, within, same_length))
+
+  pub same_addresses : (i : ℕ) (d : Line) → i < length new → (get_or new i d).address ≡ (get_or old i d).address
+  same_addresses i d within = ap (λ (l : Line). l.address) (same_but i d within)
+
+  pub same_steps : (P : ℕ → Type 0) → All (λ (l : Line). P l.step) old → All (λ (l : Line). P l.step) new
+  same_steps P all i d within =
+      subst P (sym (ap (λ (l : Line). l.step) (same_but i d within))) (all i d (omega (arith, within, same_length)))
 
 -- ---- one line is raised
 
@@ -55,15 +92,10 @@ abbrev pub room : Line → ℕ
 room line = 4_294_967_295 - line.base
 
 module _ (rom : List ℕ) (bound : Bound) (lines : List Line) (place to : ℕ) (line : Line) (here : IsOpenAt rom bound lines place line) where
-  pub raised_steps : All (λ (l : Line). l.step ≡ level_step) lines → All (λ (l : Line). l.step ≡ level_step) (set lines place (record line { base = to }))
-  raised_steps steps =
-      All-set (λ (l : Line). l.step ≡ level_step) lines place (record line { base = to })
-      (subst (λ (l : Line). l.step ≡ level_step) (here.there line) (steps place line here.within)) steps
-
-  pub raised_smaller : line.base ≤ most_straight → line.base < to → sum_by room (set lines place (record line { base = to })) < sum_by room lines
-  raised_smaller low more =
+  pub raised_smaller : (most : ℕ) → most ≤ most_straight → line.base ≤ most → line.base < to → sum_by room (set lines place (record line { base = to })) < sum_by room lines
+  raised_smaller most straight low more =
       let sums = sum_by-set room lines place (record line { base = to }) line here.within in
-      omega (arith, low, more, rw (here.there line) at sums)
+      omega (arith, straight, low, more, rw (here.there line) at sums)
 
 -- ---- the address of the first line that nothing stands against
 

@@ -15,6 +15,7 @@ pub mod Raised
 pub mod Saying
 pub mod Appends
 pub mod Leveled
+pub mod Pacing
 pub mod Unpaid
 pub mod Carried
 pub mod Gaps

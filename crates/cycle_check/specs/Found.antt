@@ -15,7 +15,7 @@ use Rattle.cycle_check.specs.declared.grammar.Line.{Line}
 use Rattle.cycle_check.specs.Certificate.{certificate_format, certificate_of}
 use Rattle.cycle_check.specs.Closed.{bytes_at, checked, left, line_at}
 use Rattle.cycle_check.specs.Exits.{exits, remarks_text}
-use Rattle.cycle_check.specs.Obstacles.{AreLeast, AreOfWays, IsBarred, IsGrown, IsMost, IsRefused, IsUncounted, IsUnpaid}
+use Rattle.cycle_check.specs.Obstacles.{AreLeast, AreOfWays, ArePaced, IsBarred, IsGrown, IsMost, IsRefused, IsUncounted, IsUnpaid}
 
 -- ---- the text of a certificate: single blanks, upper-case digits, no leading zeros
 
@@ -83,12 +83,13 @@ pub record IsCertificate (rom : List ℕ) (entry p k : ℕ) (text : List ℕ) : 
   pub leaves : All (λ exit. leaves_rom exit.to) (exits rom bound lines)
   pub limit : HasLimit bound lines
 
--- One is found: it is the text of lines of exactly the addresses that are reached, each with the least BASE.
+-- One is found: it is the text of lines of exactly the addresses that are reached, each with the least BASE and a STEP that isn't too great.
 pub record IsFoundFrom (rom : List ℕ) (start : Bound) (text : List ℕ) : Type 0 where
   pub limit : ℕ
   pub lines : List Line
   pub of_ways : AreOfWays rom start lines
   pub least : AreLeast rom start lines
+  pub paced : ArePaced rom start lines
   pub is : text ≡ timing_text rom (record start { limit = limit }) lines
   pub certificate : IsCertificate rom start.entry start.p start.k text
 

@@ -7,5 +7,6 @@ pub mod FaultNames
 pub mod Exits
 pub mod Obstacles
 pub mod Forward
+pub mod Pace
 pub mod Found
 pub mod Reach

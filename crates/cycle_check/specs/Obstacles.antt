@@ -380,11 +380,13 @@ module _ (rom : List ℕ) (bound : Bound) where
 
   -- ---- Most
 
-  -- The least BASE of an address passes what a certificate may say, among closed lines of exactly the addresses that are reached.
+  -- The least BASE of an address passes what a certificate may say, among closed lines of exactly the addresses that are reached, whose STEPs aren't too
+  -- great.
   pub record IsMost (address : ℕ) : Type 0 where
     pub lines : List Line
     pub of_ways : AreOfWays rom bound lines
     pub least : AreLeast lines
+    pub paced : ArePaced lines
     pub closed : first_from (cause_at rom bound lines) 1 lines ≡ None
     pub line : Line
     pub there : line_at lines address ≡ Some line

@@ -27,8 +27,8 @@ pub fn find_costs(graph: &mut Graph, members: &[Member]) {
     }
 }
 
-// How many of the first members are of one component.
-fn first_count(members: &[Member]) -> usize
+/// How many of the first members are of one component.
+pub fn first_count(members: &[Member]) -> usize
     ensures { result ≤ length members.now }
 {
     for count in 0..members.len() {
@@ -39,7 +39,7 @@ fn first_count(members: &[Member]) -> usize
     members.len()
 }
 
-// A line that doesn't lead back to itself. It takes a STEP where that makes its BASE less.
+// A line that doesn't lead back to itself. It takes a STEP where that makes its BASE less, and then the least one with which its BASE is that.
 fn settle_line(graph: &mut Graph, member: &Member) {
     let flat = base_of(graph, &member.node, 0);
     let slope = slope_of(graph, &member.node);
@@ -47,8 +47,25 @@ fn settle_line(graph: &mut Graph, member: &Member) {
     if flat <= base {
         set_costs(graph, member.place, flat, 0);
     } else {
-        set_costs(graph, member.place, base, slope);
+        set_costs(
+            graph,
+            member.place,
+            base,
+            step_with(graph, &member.node, base),
+        );
     }
+}
+
+// The least STEP with which a line needs no more than a BASE.
+fn step_with(graph: &Graph, node: &Node, base: u32) -> u32 {
+    let mut step = 0u64;
+    for counter in EXTREMES {
+        if counter > 0 {
+            let more = need_at(graph, node, counter).saturating_sub(u64::from(base));
+            step = step.max(more.div_ceil(u64::from(counter)));
+        }
+    }
+    step.min(u64::from(u32::MAX)) as u32
 }
 
 // The lines of a loop take the least STEP with which their bases come to rest.

@@ -5,11 +5,12 @@ ghost use Rattle.cycle_check.specs.Forward.{AreDrawn, AreFull, AreMade, AreWhole
 ghost use Rattle.cycle_check.specs.Closed.{left, line_at};
 ghost use Rattle.cycle_check.specs.Found.{IsFound, IsFoundFrom, IsTimingFault};
 ghost use Rattle.cycle_check.specs.declared.grammar.Line.{Line};
-ghost use Rattle.cycle_check.specs.Obstacles.{AreAllowed, AreClosed, AreLowSteps, HasLowBase, IsBarred, IsMost, IsOfByte};
+ghost use Rattle.cycle_check.specs.Obstacles.{AreAllowed, AreClosed, AreLowSteps, ArePaced, HasLowBase, IsBarred, IsMost, IsOfByte};
+ghost use Rattle.cycle_check.specs.Pace.{AreSettled};
 ghost use Rattle.cycle_check.specs.Reading.{AreRising};
 
 use crate::closed::{instruction_at, is_allowed, line_at};
-use crate::components::find_components;
+use crate::components::{Member, find_components};
 use crate::cost::find_costs;
 use crate::drawn::drawn_at;
 use crate::exits::exits_of;
@@ -17,7 +18,8 @@ use crate::fault::{TimingCause, TimingFault, obstacle};
 use crate::forward::{Forward, ROM_SIZE, explore};
 use crate::grammar::{Bound, Line, MOST_LEFT};
 use crate::graph::{Graph, graph_of};
-use crate::least::{first_open, grow, leveled, raise_all};
+use crate::least::{MOST_STRAIGHT, first_open, first_over, grow, leveled, raise_all};
+use crate::pace::pace;
 use crate::said::draw;
 use crate::turn::is_unpaid;
 use crate::write::text_of;
@@ -30,7 +32,7 @@ use vip_byte::MOST_TEXT;
 ///
 /// From the entry on the ways are followed that what is known of D opens, which finds the facts. The lines are of exactly the addresses to which
 /// ways lead that these facts let through, and each says a fact and the X that all ways there show. A loop has the least STEP that pays its turns,
-/// and each line the least BASE. Where an address is met whose opcode no line allows, where a loop isn't counted, or where a BASE passes 1,000,000,
+/// a line of no loop one that can't be one less, and each line the least BASE. Where an address is met whose opcode no line allows, where a loop isn't counted, or where a BASE passes 1,000,000,
 /// the answer is that; so it is where one fact a line doesn't suffice, with an address of a turn that no BASEs and no STEP close for these lines; or
 /// with the entry, where P is K or one of them is no register's number; or memory was wanting. For which routines one is found is not promised.
 pub fn find_timing(
@@ -70,7 +72,7 @@ fn find_in(alloc: Global, forward: &Forward) -> Result<Vec<u8>, TimingFault>
     pass_turn(forward, bare.as_slice(), found.unpaid.as_slice())?;
     find_costs(&mut graph, found.members.as_slice());
     let lines = lines_of(alloc, forward, places, &graph)?;
-    settle(alloc, forward, &mut graph, lines)
+    settle(alloc, forward, &mut graph, found.members.as_slice(), lines)
 }
 
 // Passes a turn; or says that it isn't counted, whatever the lines say, or isn't paid for as they say it.
@@ -96,6 +98,7 @@ fn settle(
     alloc: Global,
     forward: &Forward,
     graph: &mut Graph,
+    members: &[Member],
     mut lines: Vec<Line>,
 ) -> Result<Vec<u8>, TimingFault>
     requires { AreMade forward.now.rom.now forward.now.bound lines.items }
@@ -104,15 +107,24 @@ fn settle(
     ensures fault { IfErr result (IsTimingFault forward.now.rom.now forward.now.bound) }
 {
     raise_all(forward.rom, &forward.bound, graph, &mut lines);
-    let settled = lines.as_slice();
-    if first_open(forward.rom, &forward.bound, settled).is_none() && have_low_steps(settled) {
-        return certify(alloc, forward, settled);
+    if are_settled(forward.rom, &forward.bound, lines.as_slice()) {
+        return certify_paced(alloc, forward, graph, members, lines);
     }
-    let mut level = leveled(alloc, settled)?;
+    let mut level = leveled(alloc, lines.as_slice())?;
     match grow(forward.rom, &forward.bound, graph, &mut level) {
         Some(address) => Err(obstacle(forward.rom, TimingCause::Fact, address)),
-        None => certify(alloc, forward, level.as_slice()),
+        None => certify_paced(alloc, forward, graph, members, level),
     }
+}
+
+// Whether lines are closed with STEPs that a certificate may say.
+fn are_settled(rom: &[u8], bound: &Bound, lines: &[Line]) -> bool
+    requires { AreMade rom.now bound.now lines.now }
+    ensures { result ≡ true → AreSettled rom.now bound.now lines.now }
+{
+    first_open(rom, bound, lines).is_none()
+        && first_over(lines, MOST_STRAIGHT).is_none()
+        && have_low_steps(lines)
 }
 
 // Whether each line has a STEP that a certificate may say.
@@ -125,6 +137,30 @@ fn have_low_steps(lines: &[Line]) -> bool
         }
     }
     true
+}
+
+// The text of a certificate with closed lines, whose STEPs are lowered until none is too great; or what stands against one.
+fn certify_paced(
+    alloc: Global,
+    forward: &Forward,
+    graph: &mut Graph,
+    members: &[Member],
+    mut lines: Vec<Line>,
+) -> Result<Vec<u8>, TimingFault>
+    requires { AreSettled forward.now.rom.now forward.now.bound lines.items }
+    ensures found { IfOk result (λ text. IsFoundFrom forward.now.rom.now forward.now.bound text.items) }
+    ensures fits { IfOk result (λ text. length text.items ≤ MOST_TEXT) }
+    ensures fault { IfErr result (IsTimingFault forward.now.rom.now forward.now.bound) }
+{
+    pace(
+        alloc,
+        forward.rom,
+        &forward.bound,
+        graph,
+        members,
+        &mut lines,
+    )?;
+    certify(alloc, forward, lines.as_slice())
 }
 
 // The lines of a routine by their place, with their STEPs by a graph and no BASE.
@@ -166,6 +202,7 @@ fn with_step(graph: &Graph, line: Line) -> Line
 fn certify(alloc: Global, forward: &Forward, lines: &[Line]) -> Result<Vec<u8>, TimingFault>
     requires made { AreMade forward.now.rom.now forward.now.bound lines.now }
     requires closed { AreClosed forward.now.rom.now forward.now.bound lines.now }
+    requires paced { ArePaced forward.now.rom.now forward.now.bound lines.now }
     requires steps { AreLowSteps lines.now }
     ensures found { IfOk result (λ text. IsFoundFrom forward.now.rom.now forward.now.bound text.items) }
     ensures fits { IfOk result (λ text. length text.items ≤ MOST_TEXT) }
@@ -198,6 +235,7 @@ fn write(
 ) -> Result<Vec<u8>, AllocError>
     requires made { AreMade rom.now start.now lines.now }
     requires closed { AreClosed rom.now start.now lines.now }
+    requires paced { ArePaced rom.now start.now lines.now }
     requires steps { AreLowSteps lines.now }
     requires allowed { AreAllowed rom.now start.now lines.now }
     requires bases { (address : ℕ) → HasLowBase lines.now address }
@@ -234,6 +272,7 @@ fn barred_in(forward: &Forward, lines: &[Line]) -> Option<u16>
 fn most_in(forward: &Forward, lines: &[Line]) -> Option<u16>
     requires made { AreMade forward.now.rom.now forward.now.bound lines.now }
     requires closed { AreClosed forward.now.rom.now forward.now.bound lines.now }
+    requires paced { ArePaced forward.now.rom.now forward.now.bound lines.now }
     requires allowed { AreAllowed forward.now.rom.now forward.now.bound lines.now }
     ensures { MatchOption result ((address : ℕ) → HasLowBase lines.now address)
         (λ address. IsMost forward.now.rom.now forward.now.bound address) }

@@ -9,6 +9,7 @@ ghost use Rattle.cycle_check.specs.declared.grammar.Line.{Line};
 ghost use Rattle.cycle_check.specs.Closed.{instruction_at, is_closed};
 ghost use Rattle.cycle_check.specs.Forward.{AreMade, IsOpenAt, level};
 ghost use Rattle.cycle_check.specs.Obstacles.{AreClosed, AreLowSteps, IsGrown, level_step, most_straight};
+ghost use Rattle.cycle_check.specs.Pace.{AreWithin, DifferInBases, IsOver};
 ghost use Rattle.cycle_check.specs.Reading.{AreRising};
 
 use crate::closed::{instruction_at, is_closed};
@@ -22,13 +23,14 @@ use std::alloc::{AllocError, Global};
 const LEVEL_STEP: u32 = 6_144;
 
 /// With it, more than ways cost that come to no address twice.
-const MOST_STRAIGHT: u32 = 4_000_000_000;
+pub const MOST_STRAIGHT: u64 = 4_000_000_000;
 
 /// Raises BASEs of lines, and of a graph of them whose turns are all paid for, until no line asks for more: each round takes what is asked for over one more
 /// line.
 pub fn raise_all(rom: &[u8], bound: &Bound, graph: &mut Graph, lines: &mut Vec<Line>)
     requires { AreMade rom.now bound.now lines.old.items }
-    ensures { AreMade rom.now bound.now lines.new.items }
+    ensures made { AreMade rom.now bound.now lines.new.items }
+    ensures differ { DifferInBases lines.old.items lines.new.items }
 {
     lower_all(graph, lines.as_slice());
     for _ in 0..=ROM_SIZE {
@@ -53,7 +55,8 @@ fn place_of(line: &Line) -> u16 {
 // Raises each line once, the last one first, since most ways lead on. Whether one was raised.
 fn raise_round(rom: &[u8], bound: &Bound, graph: &mut Graph, lines: &mut Vec<Line>) -> bool
     requires { AreMade rom.now bound.now lines.old.items }
-    ensures { AreMade rom.now bound.now lines.new.items }
+    ensures made { AreMade rom.now bound.now lines.new.items }
+    ensures differ { DifferInBases lines.old.items lines.new.items }
 {
     let mut raised = false;
     for place in (0..lines.len()).rev() {
@@ -67,7 +70,8 @@ fn raise_round(rom: &[u8], bound: &Bound, graph: &mut Graph, lines: &mut Vec<Lin
 // Raises the line at a place to the BASE that it needs. Whether it was raised.
 fn raise(rom: &[u8], bound: &Bound, graph: &mut Graph, lines: &mut Vec<Line>, place: usize) -> bool
     requires { AreMade rom.now bound.now lines.old.items }
-    ensures { AreMade rom.now bound.now lines.new.items }
+    ensures made { AreMade rom.now bound.now lines.new.items }
+    ensures differ { DifferInBases lines.old.items lines.new.items }
 {
     let Some(line) = line_there(lines.as_slice(), place) else {
         return false;
@@ -150,16 +154,47 @@ pub fn grow(rom: &[u8], bound: &Bound, graph: &mut Graph, lines: &mut Vec<Line>)
     requires level { All (λ line. line.step ≡ level_step) lines.old.items }
     ensures made { AreMade rom.now bound.now lines.new.items }
     ensures steps { AreLowSteps lines.new.items }
-    ensures grown { MatchOption result (AreClosed rom.now bound.now lines.new.items) (λ address. IsGrown rom.now bound.now lines.new.items address) }
+    ensures grown { MatchOption result (AreClosed rom.now bound.now lines.new.items × AreWithin most_straight lines.new.items)
+        (λ address. IsGrown rom.now bound.now lines.new.items address) }
 {
-    lower_all(graph, lines.as_slice());
+    rise(rom, bound, graph, lines, MOST_STRAIGHT)
+}
+
+/// Raises BASEs of lines until they are closed; or one of them passes `most`, which its address tells.
+pub fn rise(
+    rom: &[u8],
+    bound: &Bound,
+    graph: &mut Graph,
+    lines: &mut Vec<Line>,
+    most: u64,
+) -> Option<u16>
+    requires made { AreMade rom.now bound.now lines.old.items }
+    requires most { most ≤ most_straight }
+    ensures made { AreMade rom.now bound.now lines.new.items }
+    ensures differ { DifferInBases lines.old.items lines.new.items }
+    ensures risen { MatchOption result (AreClosed rom.now bound.now lines.new.items × AreWithin most lines.new.items) (IsOver most lines.new.items) }
+{
+    raise_all(rom, bound, graph, lines);
     while let Some((place, line)) = first_open(rom, bound, lines.as_slice()) {
-        if line.base > MOST_STRAIGHT {
+        if u64::from(line.base) > most {
             return Some(line.address);
         }
         let base = raised(rom, bound, graph, lines.as_slice(), &line);
         set_costs(graph, place_of(&line), base, line.step);
         lines[place] = Line { base, ..line };
+    }
+    first_over(lines.as_slice(), most)
+}
+
+/// The address of the first line whose BASE passes `most`.
+pub fn first_over(lines: &[Line], most: u64) -> Option<u16>
+    ensures { MatchOption result (AreWithin most lines.now) (IsOver most lines.now) }
+{
+    for place in 0..lines.len() {
+        let line = lines[place];
+        if u64::from(line.base) > most {
+            return Some(line.address);
+        }
     }
     None
 }

@@ -32,6 +32,7 @@ mod graph;
 mod known;
 pub mod laws;
 mod least;
+mod pace;
 mod reach;
 mod said;
 mod short;

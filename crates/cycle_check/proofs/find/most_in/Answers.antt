@@ -9,6 +9,7 @@ returns-then-is_over c =
       lines = c.args.lines.now;
       of_ways = c.requires.made.of_ways;
       least = c.requires.made.least;
+      paced = c.requires.paced;
       closed =
           none_stands c.args.forward.now.rom.now c.args.forward.now.bound c.args.lines.now c.args.lines.now 1 c.requires.allowed c.requires.closed;
       line = over.0;

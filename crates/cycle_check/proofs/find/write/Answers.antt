@@ -23,7 +23,7 @@ returns-clause-found c =
     IfOk-weaker c.text_of.result (λ text. text.items ≡ timing_text c.args.rom.now limited c.args.lines.now)
     (λ text. IsFoundFrom c.args.rom.now c.args.start.now text.items)
     (λ text. found_from c.args.rom.now c.args.start.now c.args.lines.now h.made c.args.first.now h.first (λ a. omega (arith, c.type_inv.rom a)) h.closed
-    h.allowed h.bases h.steps h.apart h.registers.0 h.registers.1 text.items) written
+    h.paced h.allowed h.bases h.steps h.apart h.registers.0 h.registers.1 text.items) written
 
 pub returns-clause-fits : goal.returns-clause-fits
 returns-clause-fits c =
