@@ -21,7 +21,7 @@ use Rattle.cycle_check.specs.declared.table.When.TheVariants.{Always, Zero, NotZ
 use Rattle.cycle_check.specs.declared.table.Way.{Way}
 use Rattle.cycle_check.specs.Table.{flow_of, low_after, ways_of, x_after}
 use Rattle.cycle_check.specs.Closed.{admits, byte_at, counter_after, fits_x, holds_at, instruction_at, is_closed, is_kept, is_open, is_shown, is_way_closed, known_d, left, lets_through, line_at, line_behind, pays_for, ways_at}
-use Rattle.cycle_check.specs.Obstacles.{AreClosed, IsOneOf, IsShort, LeadsBy, LeadsUnpaid, says_some, takes_at, takes_counter, takes_one, turn_takes, with_cost, with_costs}
+use Rattle.cycle_check.specs.Obstacles.{AreClosed, IsOneOf, IsShort, LeadsBy, says_some, takes_at, takes_counter, takes_one, turn_takes, with_cost, with_costs}
 use Rattle.cycle_check.proofs.Below.{left_rises, passes_at}
 use Rattle.cycle_check.proofs.Drawing.{found_all}
 use Rattle.cycle_check.proofs.Lookup.{address_of-found, line_at-map}
@@ -51,10 +51,6 @@ after_one taken kind false d more takes = omega arith
 -- how many a line takes
 abbrev count : Bool → ℕ
 count takes = if takes then 1 else 0
-
-not_counted : (takes : Bool) → count takes ≡ 0 → takes ≡ false
-not_counted true h = cc
-not_counted false h = refl
 
 some_one : (kind : Kind) (named : Bool) → NotLess (count (takes_one kind && named && true)) 1 (if named then low_after kind None 1 else Some 1)
 some_one Dec true = omega arith
@@ -266,9 +262,3 @@ module _ (rom : List ℕ) (bound : Bound) (lines : List Line) (turn : List ℕ) 
   unpaid_short t =
       let first = get_or-le-sum_by (λ a. (instruction_at rom a).cycles) turn 0 0 some in
       record { some = some; goes = goes; costs = rw none (omega (arith, first, takes_time rom (slice_index turn 0))) }
-
-  pub unpaid_at : (i : ℕ) → i < length turn → LeadsUnpaid rom bound lines (slice_index turn i) (slice_index turn ((i + 1) % length turn))
-  unpaid_at i low =
-      let h = goes i low in
-      let zero : takes_at rom bound lines (slice_index turn i) ≡ 0 = omega (arith, get_or-le-sum_by (takes_at rom bound lines) turn i 0 low, none) in
-      record { line = h.line; there = h.there; unpaid = not_counted _ (rw h.there at zero); way = h.way; is = h.is; through = h.through }

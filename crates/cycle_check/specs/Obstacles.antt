@@ -346,22 +346,14 @@ module _ (rom : List ℕ) (bound : Bound) where
 
   -- ---- Fact
 
-  -- A way leads from a line to an address, let through by the line's fact. The line takes nothing from the counter: it is no DEC that says that this isn't 0.
-  pub record LeadsUnpaid (lines : List Line) (address to : ℕ) : Type 0 where
-    pub line : Line
-    pub there : line_at lines address ≡ Some line
-    pub unpaid : takes_counter bound line (instruction_at rom address) ≡ false
-    pub way : Way
-    pub is : IsWay rom bound address way to
-    pub through : lets_through line.fact way.when ≡ true
-
-  -- A turn of such ways leads from an address back to it. No BASEs close it, and no STEP, which is one for all lines of the turn: with STEPs that differ along
-  -- it, a way might be paid for by what another one asks for less.
+  -- A turn leads from an address back to it, and none of its lines takes one from the counter. No BASEs close it, and no STEP, which is one for all lines of the
+  -- turn: with STEPs that differ along it, a way might be paid for by what another one asks for less.
   pub record IsUnpaid (lines : List Line) (address : ℕ) : Type 0 where
     pub turn : List ℕ
     pub some : 0 < length turn
     pub begins : slice_index turn 0 ≡ address
-    pub goes : (i : ℕ) → i < length turn → LeadsUnpaid lines (slice_index turn i) (slice_index turn ((i + 1) % length turn))
+    pub goes : (i : ℕ) → i < length turn → LeadsBy lines (slice_index turn i) (slice_index turn ((i + 1) % length turn))
+    pub unpaid : turn_takes lines turn ≡ 0
     pub stays_open : (base step : ℕ → ℕ) → ((i : ℕ) → i < length turn → step (slice_index turn i) ≡ step address) → AreClosed (with_costs base step lines) → ⊥
 
   -- the opcode at the address isn't allowed at its line

@@ -1,6 +1,6 @@
 use Rattle.std.proofs.Common.{arith, refl, sym, ◌∙◌}
 use Rattle.std.proofs.lemmas.Bool.{eqb-true}
-use Rattle.cycle_check.proofs.Unpaid.{short_open, unpaid_at, unpaid_short}
+use Rattle.cycle_check.proofs.Unpaid.{short_open, unpaid_short}
 use Rattle.cycle_check.proofs.turn.is_unpaid.Goals as goal
 
 pub returns-then-goes_by : goal.returns-then-goes_by
@@ -15,7 +15,8 @@ returns-then-goes_by c unpaid =
       turn = turn;
       some = omega arith;
       begins = refl;
-      goes = unpaid_at rom bound lines turn (omega arith) goes none;
+      goes = goes;
+      unpaid = none;
       stays_open = λ base step level.
           short_open rom bound lines turn _ (unpaid_short rom bound lines turn (omega arith) goes none _) base step level;
     }
