@@ -30,11 +30,13 @@ use vip_byte::MOST_TEXT;
 /// `check_cycles` accepts, written with single blanks, upper-case digits and no leading zeros, and has a remark for each exit behind its lines.
 /// Each exit is by SEP of another register, or leads out of the ROM.
 ///
-/// From the entry on the ways are followed that what is known of D opens, which finds the facts. The lines are of exactly the addresses to which
-/// ways lead that these facts let through, and each says a fact and the X that all ways there show. A loop has the least STEP that pays its turns,
-/// a line of no loop one that can't be one less, and each line the least BASE. Where an address is met whose opcode no line allows, where a loop isn't counted, or where a BASE passes 1,000,000,
-/// the answer is that; so it is where one fact a line doesn't suffice, with an address of a turn that no BASEs and no STEP close for these lines; or
-/// with the entry, where P is K or one of them is no register's number; or memory was wanting. For which routines one is found is not promised.
+/// The lines are of exactly the addresses to which ways lead that their facts let through. Each says the X that all ways there show; and a fact where one
+/// can be said: what D is, where D is asked for soon, or that the counter isn't 0. A loop has the least STEP that pays its turns, a line of no loop one
+/// that can't be one less, and each line the least BASE.
+///
+/// Where an address is met whose opcode no line allows, where a loop isn't counted, or where a BASE passes 1,000,000, the answer is that; so it is where
+/// one fact a line doesn't suffice, with an address of a turn that no BASEs and no STEP close for these lines; or with the entry, where P is K or one of
+/// them is no register's number; or memory was wanting. For which routines one is found is not promised.
 pub fn find_timing(
     alloc: Global,
     rom: &[u8; 2048],

@@ -1,7 +1,7 @@
 //! The way forward from an entry: which addresses it leads to, and what the line of each may say of X, D and the counter.
 //!
-//! That a certificate is right doesn't rest on what is found here, since what is written is checked. What is said where none is found does: so the
-//! contracts say of what is known that it is true of the source (`specs/Forward.antt`), and no more.
+//! That a certificate is right doesn't rest on what is found here. What is said where none is found does: so the contracts say of what is known that it is
+//! true of the source (`specs/Forward.antt`), and no more.
 
 ghost use Rattle.std.specs.Prelude.{◌≡◌, ◌+◌, ◌<◌, ◌≤◌, OnOk, IfOk, IfErr, IfSome, MatchOption, None, true};
 ghost use Rattle.cycle_check.specs.declared.grammar.Fact.TheVariants.{NonZero};
