@@ -37,6 +37,20 @@ says_some fact = false
 abbrev pub takes_counter : Bound → Line → Instruction → Bool
 takes_counter bound line i = takes_one i.op.kind && i.op.n == bound.k && says_some line.fact
 
+-- how much more the counter is behind an instruction that names it, at the value of those that a fact allows where that is most
+abbrev pub raised_by : Kind → Fact → ℕ
+raised_by Inc fact = 1
+raised_by Lda fact = 1
+raised_by Plo (says.Is byte) = byte
+raised_by Plo says.Any = 255
+raised_by Plo says.NonZero = 254
+raised_by Dec says.NonZero = 0
+raised_by Dec fact = 255
+raised_by _ fact = 0
+
+abbrev pub raises_counter : Bound → Line → Instruction → ℕ
+raises_counter bound line i = if i.op.n == bound.k then raised_by i.op.kind line.fact else 0
+
 -- what a fact says that D is, is a byte
 abbrev pub IsOfByte : Fact → Type 0
 IsOfByte (says.Is byte) = byte < 256
@@ -338,22 +352,30 @@ module _ (rom : List ℕ) (bound : Bound) where
   abbrev pub turn_takes : List Line → List ℕ → ℕ
   turn_takes lines = sum_by (takes_at lines)
 
-  -- A turn leads from an address back to it, and costs more cycles than this STEP pays for at its lines that take from the counter.
+  -- how much its lines may put back into it
+  abbrev pub raises_at : List Line → ℕ → ℕ
+  raises_at lines address = option_map_or (λ line. raises_counter bound line (instruction_at rom address)) (line_at lines address) 0
+
+  abbrev pub turn_raises : List Line → List ℕ → ℕ
+  turn_raises lines = sum_by (raises_at lines)
+
+  -- A turn leads from an address back to it. This STEP pays at its lines that take from the counter for fewer cycles than the turn costs, and what its lines
+  -- put back costs.
   pub record IsShort (lines : List Line) (turn : List ℕ) (step : ℕ) : Type 0 where
     pub some : 0 < length turn
     pub goes : (i : ℕ) → i < length turn → LeadsBy lines (slice_index turn i) (slice_index turn ((i + 1) % length turn))
-    pub costs : step * turn_takes lines turn < turn_cycles rom turn
+    pub costs : step * turn_takes lines turn < turn_cycles rom turn + step * turn_raises lines turn
 
   -- ---- Fact
 
-  -- A turn leads from an address back to it, and none of its lines takes one from the counter. No BASEs close it, and no STEP, which is one for all lines of the
-  -- turn: with STEPs that differ along it, a way might be paid for by what another one asks for less.
+  -- A turn leads from an address back to it, and its lines may put back into the counter what they take from it, or more. No BASEs close it, and no STEP, which
+  -- is one for all lines of the turn: with STEPs that differ along it, a way might be paid for by what another one asks for less.
   pub record IsUnpaid (lines : List Line) (address : ℕ) : Type 0 where
     pub turn : List ℕ
     pub some : 0 < length turn
     pub begins : slice_index turn 0 ≡ address
     pub goes : (i : ℕ) → i < length turn → LeadsBy lines (slice_index turn i) (slice_index turn ((i + 1) % length turn))
-    pub unpaid : turn_takes lines turn ≡ 0
+    pub unpaid : turn_takes lines turn ≤ turn_raises lines turn
     pub stays_open : (base step : ℕ → ℕ) → ((i : ℕ) → i < length turn → step (slice_index turn i) ≡ step address) → AreClosed (with_costs base step lines) → ⊥
 
   -- the opcode at the address isn't allowed at its line

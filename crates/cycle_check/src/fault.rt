@@ -78,7 +78,7 @@ pub enum TimingCause {
     Loop,
     /// The least BASE at the address passes 1,000,000.
     Most,
-    /// Lines that say one fact each are no certificate: a turn at the address takes nothing from the counter as they say it, or no line is allowed there.
+    /// Lines that say one fact each are no certificate: a turn at the address may put back into the counter what it takes, or no line is allowed there.
     Fact,
 }
 

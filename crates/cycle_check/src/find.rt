@@ -11,16 +11,17 @@ ghost use Rattle.cycle_check.specs.Reading.{AreRising};
 
 use crate::closed::{instruction_at, is_allowed, line_at};
 use crate::components::{Member, find_components};
-use crate::cost::find_costs;
+use crate::cost::{find_costs, first_count};
 use crate::drawn::drawn_at;
 use crate::exits::exits_of;
 use crate::fault::{TimingCause, TimingFault, obstacle};
 use crate::forward::{Forward, ROM_SIZE, explore};
 use crate::grammar::{Bound, Line, MOST_LEFT};
 use crate::graph::{Graph, graph_of};
-use crate::least::{MOST_STRAIGHT, first_open, first_over, grow, leveled, raise_all};
+use crate::least::{LEVEL_STEP, MOST_STRAIGHT, first_open, first_over, grow, leveled, raise_all};
 use crate::pace::pace;
 use crate::said::draw;
+use crate::short::short_turn;
 use crate::turn::is_unpaid;
 use crate::write::text_of;
 use std::alloc::{AllocError, Global};
@@ -70,28 +71,75 @@ fn find_in(alloc: Global, forward: &Forward) -> Result<Vec<u8>, TimingFault>
     let mut graph = graph_of(alloc, forward.rom, &forward.bound, places)?;
     let found = find_components(alloc, &graph)?;
     let bare = lines_of(alloc, forward, places, &graph)?;
-    pass_turn(forward, bare.as_slice(), found.turn.as_slice())?;
+    pass_uncounted(forward, found.turn.as_slice())?;
     pass_turn(forward, bare.as_slice(), found.unpaid.as_slice())?;
+    pass_turns(
+        alloc,
+        forward,
+        bare.as_slice(),
+        &graph,
+        found.members.as_slice(),
+    )?;
     find_costs(&mut graph, found.members.as_slice());
     let lines = lines_of(alloc, forward, places, &graph)?;
     settle(alloc, forward, &mut graph, found.members.as_slice(), lines)
 }
 
-// Passes a turn; or says that it isn't counted, whatever the lines say, or isn't paid for as they say it.
-fn pass_turn(forward: &Forward, lines: &[Line], turn: &[u16]) -> Result<(), TimingFault>
-    requires true_of { IsTrueOf forward.now }
-    requires made { AreMade forward.now.rom.now forward.now.bound lines.now }
+// Passes a turn; or says that it isn't counted, whatever the lines say.
+fn pass_uncounted(forward: &Forward, turn: &[u16]) -> Result<(), TimingFault>
+    requires { IsTrueOf forward.now }
     ensures { IfErr result (IsTimingFault forward.now.rom.now forward.now.bound) }
 {
     match turn {
         [address, ..] if forward.is_uncounted(turn) => {
             Err(obstacle(forward.rom, TimingCause::Loop, *address))
         }
+        _ => Ok(()),
+    }
+}
+
+// Passes a turn; or says that, or that it isn't paid for as the lines say it.
+fn pass_turn(forward: &Forward, lines: &[Line], turn: &[u16]) -> Result<(), TimingFault>
+    requires true_of { IsTrueOf forward.now }
+    requires made { AreMade forward.now.rom.now forward.now.bound lines.now }
+    ensures { IfErr result (IsTimingFault forward.now.rom.now forward.now.bound) }
+{
+    pass_uncounted(forward, turn)?;
+    match turn {
         [address, ..] if is_unpaid(forward.rom, &forward.bound, lines, turn) => {
             Err(obstacle(forward.rom, TimingCause::Fact, *address))
         }
         _ => Ok(()),
     }
+}
+
+// Passes a turn of each component, where there is one whose lines put back into the counter what they take. No turn that comes to no address twice has as
+// many cycles as the STEP with which it is looked for.
+fn pass_turns(
+    alloc: Global,
+    forward: &Forward,
+    lines: &[Line],
+    graph: &Graph,
+    members: &[Member],
+) -> Result<(), TimingFault>
+    requires true_of { IsTrueOf forward.now }
+    requires made { AreMade forward.now.rom.now forward.now.bound lines.now }
+    ensures { IfErr result (IsTimingFault forward.now.rom.now forward.now.bound) }
+{
+    let mut others = members;
+    for _ in 0..members.len() {
+        let (component, behind) = others.split_at(first_count(others));
+        match component {
+            [] => break,
+            [member] if !member.is_loop => {}
+            [..] => {
+                let turn = short_turn(alloc, graph, component, LEVEL_STEP + 1)?;
+                pass_turn(forward, lines, turn.as_slice())?;
+            }
+        }
+        others = behind;
+    }
+    Ok(())
 }
 
 // Finds the BASEs of lines with their STEPs. Where these don't pay for all turns, one STEP does that pays for each turn which can be paid for; or there is

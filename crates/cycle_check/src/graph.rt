@@ -5,7 +5,7 @@ use crate::drawn::drawn_at;
 use crate::forward::{ROM_SIZE, end_of};
 use crate::grammar::{Bound, Line};
 use crate::table::{Way, Ways};
-use crate::turn::{assigns_low, takes_counter};
+use crate::turn::{assigns_low, raises_counter, takes_counter};
 use arrayvec::ArrayVec;
 use std::alloc::{AllocError, Global};
 
@@ -20,6 +20,8 @@ pub struct Node {
     pub ways: Ways,
     /// Whether the instruction takes one from the counter, which isn't 0 there.
     pub takes: bool,
+    /// How much more the counter may be behind it.
+    pub raises: u8,
     /// Whether it may give the counter another value than one less.
     pub assigns: bool,
 }
@@ -60,6 +62,7 @@ fn node_of(rom: &[u8], bound: &Bound, line: &Line) -> Node {
         instruction,
         ways: ways_from(bound, line.address, &instruction),
         takes,
+        raises: raises_counter(bound, line, &instruction),
         assigns: assigns && !takes,
     }
 }

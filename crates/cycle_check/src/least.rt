@@ -20,7 +20,7 @@ use crate::graph::Graph;
 use std::alloc::{AllocError, Global};
 
 /// A STEP that pays a turn through all addresses of the ROM.
-const LEVEL_STEP: u32 = 6_144;
+pub const LEVEL_STEP: u32 = 6_144;
 
 /// With it, more than ways cost that come to no address twice.
 pub const MOST_STRAIGHT: u64 = 4_000_000_000;

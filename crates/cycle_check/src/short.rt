@@ -5,7 +5,7 @@ use crate::forward::ROM_SIZE;
 use crate::graph::{Graph, PLACES};
 use std::alloc::{AllocError, Global};
 
-// The greatest distance that was found from a line: the cycles of ways from there on, less what the STEP pays on them.
+// The greatest distance that was found from a line: what ways from there on cost, less what the STEP pays on them.
 #[derive(Clone, Copy)]
 struct Distance {
     cycles: u64,
@@ -19,8 +19,8 @@ struct Distances {
     places: Vec<Option<Distance>>,
 }
 
-/// Finds a turn among the lines of one component that costs more cycles than a STEP pays for at its lines that take from the counter. It is given as
-/// addresses each of which leads to the next one, and the last one to the first; none where no turn is found.
+/// Finds a turn among the lines of one component that costs more than a STEP pays for at its lines that take from the counter: its cycles, and what its lines
+/// put back. It is given as addresses each of which leads to the next one, and the last one to the first; none where no turn is found.
 pub fn short_turn(
     alloc: Global,
     graph: &Graph,
@@ -95,11 +95,13 @@ impl Distances {
         let (Some(own), Some(behind)) = (self.distance(member.place), self.distance(target)) else {
             return false;
         };
+        let step = u64::from(step);
         let paid = if member.node.takes { step } else { 0 };
         let cost = behind
             .cycles
             .saturating_add(u64::from(member.node.instruction.cycles))
-            .saturating_sub(u64::from(paid));
+            .saturating_add(step * u64::from(member.node.raises))
+            .saturating_sub(paid);
         let at = usize::from(member.place);
         if cost <= own.cycles || at >= self.places.len() {
             return false;

@@ -3,7 +3,7 @@
 ghost use Rattle.std.specs.Prelude.{◌≡◌, ℕ, ◌+◌, ◌<◌, ◌≤◌, ◌%◌, true, false, length, slice_index, Some};
 ghost use Rattle.std.specs.List.{All, Any};
 ghost use Rattle.cycle_check.specs.Forward.{IsTrueOf};
-ghost use Rattle.cycle_check.specs.Obstacles.{IsShort, IsUncounted, IsUnpaid, LeadsBy, LeadsOn, MayRaise, assigns_counter, assigns_low, says_some, takes_at, takes_counter, takes_one, turn_cycles, turn_takes};
+ghost use Rattle.cycle_check.specs.Obstacles.{IsShort, IsUncounted, IsUnpaid, LeadsBy, LeadsOn, MayRaise, assigns_counter, assigns_low, says_some, raised_by, raises_at, raises_counter, takes_at, takes_counter, takes_one, turn_cycles, turn_raises, turn_takes};
 ghost use Rattle.cycle_check.specs.Reading.{AreRising};
 
 use crate::closed::{Instruction, instruction_at, is_open, lets_through, line_at, ways_from};
@@ -51,6 +51,32 @@ pub fn takes_counter(bound: &Bound, line: &Line, instruction: &Instruction) -> b
     takes_one(op.kind) && op.n == bound.k && says_some(line.fact)
 }
 
+// How much more the counter may be behind an instruction that names it, where a fact holds.
+fn raised_by(kind: Kind, fact: Fact) -> u8
+    ensures { result ≡ raised_by kind fact }
+{
+    match (kind, fact) {
+        (Kind::Inc | Kind::Lda, _) => 1,
+        (Kind::Plo, Fact::Is(byte)) => byte,
+        (Kind::Plo, Fact::NonZero) => 254,
+        (Kind::Plo, Fact::Copy) | (Kind::Dec, Fact::NonZero) => 0,
+        (Kind::Plo | Kind::Dec, _) => 255,
+        _ => 0,
+    }
+}
+
+/// How much more the counter may be behind a line, at a value of it that the line's fact allows.
+pub fn raises_counter(bound: &Bound, line: &Line, instruction: &Instruction) -> u8
+    ensures { result ≡ raises_counter bound.now line.now instruction.now }
+{
+    let op = instruction.op;
+    if op.n == bound.k {
+        raised_by(op.kind, line.fact)
+    } else {
+        0
+    }
+}
+
 // How many a line of an address takes from the counter.
 fn takes_at(rom: &[u8], bound: &Bound, lines: &[Line], address: u16) -> u64
     requires { AreRising lines.now }
@@ -72,6 +98,29 @@ fn turn_takes(rom: &[u8], bound: &Bound, lines: &[Line], turn: &[u16]) -> u64
         takes += takes_at(rom, bound, lines, *address);
     }
     takes
+}
+
+// How much more the counter may be behind the line of an address.
+fn raises_at(rom: &[u8], bound: &Bound, lines: &[Line], address: u16) -> u64
+    requires { AreRising lines.now }
+    ensures { result ≡ raises_at rom.now bound.now lines.now address }
+{
+    match line_at(lines, u32::from(address)) {
+        Some(line) => u64::from(raises_counter(bound, &line, &instruction_at(rom, address))),
+        None => 0,
+    }
+}
+
+// How much the lines of a turn may put back into the counter, or less: of a slice so long it may pass a u64.
+fn turn_raises(rom: &[u8], bound: &Bound, lines: &[Line], turn: &[u16]) -> u64
+    requires { AreRising lines.now }
+    ensures { result ≤ turn_raises rom.now bound.now lines.now turn.now }
+{
+    let mut raises = 0u64;
+    for address in turn {
+        raises = raises.saturating_add(raises_at(rom, bound, lines, *address));
+    }
+    raises
 }
 
 // The cycles of a turn's instructions, or fewer: a slice may be so long that they pass a u64.
@@ -121,25 +170,29 @@ fn goes_by(rom: &[u8], bound: &Bound, lines: &[Line], turn: &[u16]) -> bool
     true
 }
 
-/// Whether lines take nothing from the counter on a turn, so that no BASEs and no STEP close it.
+/// Whether the lines of a turn may put back into the counter what they take from it, so that no BASEs and no STEP close it.
 pub fn is_unpaid(rom: &[u8], bound: &Bound, lines: &[Line], turn: &[u16]) -> bool
     requires { AreRising lines.now }
     ensures { result ≡ true → IsUnpaid rom.now bound.now lines.now (slice_index turn.now 0) }
 {
     match turn {
-        [_, ..] => { goes_by(rom, bound, lines, turn) && turn_takes(rom, bound, lines, turn) == 0 }
+        [_, ..] => {
+            goes_by(rom, bound, lines, turn)
+                && turn_takes(rom, bound, lines, turn) <= turn_raises(rom, bound, lines, turn)
+        }
         [] => false,
     }
 }
 
-/// Whether a turn costs more cycles than a STEP pays for at its lines that take from the counter.
+/// Whether a STEP pays at the lines of a turn that take from the counter for fewer cycles than the turn costs, and what its lines put back.
 pub fn is_short(rom: &[u8], bound: &Bound, lines: &[Line], turn: &[u16], step: u32) -> bool
     requires { AreRising lines.now }
     ensures { result ≡ true → IsShort rom.now bound.now lines.now turn.now step }
 {
-    // where the product passes a u64 the cycles that are counted don't pass it
+    // where what is paid passes a u64 what is counted doesn't pass it
     let paid = u64::from(step).saturating_mul(turn_takes(rom, bound, lines, turn));
-    goes_by(rom, bound, lines, turn) && paid < turn_cycles(rom, turn)
+    let back = u64::from(step).saturating_mul(turn_raises(rom, bound, lines, turn));
+    goes_by(rom, bound, lines, turn) && paid < turn_cycles(rom, turn).saturating_add(back)
 }
 
 impl Forward<'_> {

@@ -2,9 +2,9 @@ use Rattle.std.proofs.Common.{refl, slice_index}
 use Rattle.cycle_check.specs.Found.Against.{Turn}
 use Rattle.cycle_check.proofs.find.pass_turn.Goals as goal
 
-pub returns-in-len1-up-2 : goal.returns-in-len1-up-2
-returns-in-len1-up-2 c =
-    rw c.obstacle-in-len1-up-2.ensures (
+pub returns-in-len1-up : goal.returns-in-len1-up
+returns-in-len1-up c =
+    rw c.obstacle.ensures (
       record {
         lines = c.args.lines.now;
         of_ways = c.requires.made.of_ways;

@@ -1,5 +1,6 @@
-use Rattle.std.proofs.Common.{arith, refl, sym, ◌∙◌}
-use Rattle.std.proofs.lemmas.Bool.{eqb-true}
+use Rattle.std.proofs.Common.{◌≤◌, arith, refl}
+use Rattle.std.proofs.lemmas.Bool.{leb-true}
+use Rattle.cycle_check.specs.Obstacles.{turn_raises, turn_takes}
 use Rattle.cycle_check.proofs.Unpaid.{short_open, unpaid_short}
 use Rattle.cycle_check.proofs.turn.is_unpaid.Goals as goal
 
@@ -10,13 +11,14 @@ returns-then-goes_by c unpaid =
     let lines = c.args.lines.now in
     let turn = c.args.turn.now in
     let goes = c.goes_by.ensures c.if-goes_by.true in
-    let none = sym c.turn_takes.ensures ∙ eqb-true c.turn_takes.result 0 unpaid in
+    let back : turn_takes rom bound lines turn ≤ turn_raises rom bound lines turn =
+    omega (arith, c.turn_takes.ensures, leb-true c.turn_takes.result c.turn_raises.result unpaid, c.turn_raises.ensures) in
     record {
       turn = turn;
       some = omega arith;
       begins = refl;
       goes = goes;
-      unpaid = none;
+      unpaid = back;
       stays_open = λ base step level.
-          short_open rom bound lines turn _ (unpaid_short rom bound lines turn (omega arith) goes none _) base step level;
+          short_open rom bound lines turn _ (unpaid_short rom bound lines turn (omega arith) goes back _) base step level;
     }
