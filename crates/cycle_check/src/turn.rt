@@ -77,50 +77,36 @@ pub fn raises_counter(bound: &Bound, line: &Line, instruction: &Instruction) -> 
     }
 }
 
-// How many a line of an address takes from the counter.
-fn takes_at(rom: &[u8], bound: &Bound, lines: &[Line], address: u16) -> u64
+// How many the line of an address takes from the counter, and how much more that may be behind it.
+fn moves_at(rom: &[u8], bound: &Bound, lines: &[Line], address: u16) -> (u64, u64)
     requires { AreRising lines.now }
-    ensures { result ≡ takes_at rom.now bound.now lines.now address }
+    ensures takes { result.0 ≡ takes_at rom.now bound.now lines.now address }
+    ensures raises { result.1 ≡ raises_at rom.now bound.now lines.now address }
 {
-    match line_at(lines, u32::from(address)) {
-        Some(line) => u64::from(takes_counter(bound, &line, &instruction_at(rom, address))),
-        None => 0,
-    }
+    let Some(line) = line_at(lines, u32::from(address)) else {
+        return (0, 0);
+    };
+    let instruction = instruction_at(rom, address);
+    (
+        u64::from(takes_counter(bound, &line, &instruction)),
+        u64::from(raises_counter(bound, &line, &instruction)),
+    )
 }
 
-// How many the lines of a turn take.
-fn turn_takes(rom: &[u8], bound: &Bound, lines: &[Line], turn: &[u16]) -> u64
+// How many the lines of a turn take, and how much they may put back, or less: of a slice so long that may pass a u64.
+fn turn_moves(rom: &[u8], bound: &Bound, lines: &[Line], turn: &[u16]) -> (u64, u64)
     requires { AreRising lines.now }
-    ensures { result ≡ turn_takes rom.now bound.now lines.now turn.now }
+    ensures takes { result.0 ≡ turn_takes rom.now bound.now lines.now turn.now }
+    ensures raises { result.1 ≤ turn_raises rom.now bound.now lines.now turn.now }
 {
     let mut takes = 0;
-    for address in turn {
-        takes += takes_at(rom, bound, lines, *address);
-    }
-    takes
-}
-
-// How much more the counter may be behind the line of an address.
-fn raises_at(rom: &[u8], bound: &Bound, lines: &[Line], address: u16) -> u64
-    requires { AreRising lines.now }
-    ensures { result ≡ raises_at rom.now bound.now lines.now address }
-{
-    match line_at(lines, u32::from(address)) {
-        Some(line) => u64::from(raises_counter(bound, &line, &instruction_at(rom, address))),
-        None => 0,
-    }
-}
-
-// How much the lines of a turn may put back into the counter, or less: of a slice so long it may pass a u64.
-fn turn_raises(rom: &[u8], bound: &Bound, lines: &[Line], turn: &[u16]) -> u64
-    requires { AreRising lines.now }
-    ensures { result ≤ turn_raises rom.now bound.now lines.now turn.now }
-{
     let mut raises = 0u64;
     for address in turn {
-        raises = raises.saturating_add(raises_at(rom, bound, lines, *address));
+        let (taken, raised) = moves_at(rom, bound, lines, *address);
+        takes += taken;
+        raises = raises.saturating_add(raised);
     }
-    raises
+    (takes, raises)
 }
 
 // The cycles of a turn's instructions, or fewer: a slice may be so long that they pass a u64.
@@ -177,8 +163,8 @@ pub fn is_unpaid(rom: &[u8], bound: &Bound, lines: &[Line], turn: &[u16]) -> boo
 {
     match turn {
         [_, ..] => {
-            goes_by(rom, bound, lines, turn)
-                && turn_takes(rom, bound, lines, turn) <= turn_raises(rom, bound, lines, turn)
+            let (takes, raises) = turn_moves(rom, bound, lines, turn);
+            goes_by(rom, bound, lines, turn) && takes <= raises
         }
         [] => false,
     }
@@ -189,9 +175,10 @@ pub fn is_short(rom: &[u8], bound: &Bound, lines: &[Line], turn: &[u16], step: u
     requires { AreRising lines.now }
     ensures { result ≡ true → IsShort rom.now bound.now lines.now turn.now step }
 {
+    let (takes, raises) = turn_moves(rom, bound, lines, turn);
     // where what is paid passes a u64 what is counted doesn't pass it
-    let paid = u64::from(step).saturating_mul(turn_takes(rom, bound, lines, turn));
-    let back = u64::from(step).saturating_mul(turn_raises(rom, bound, lines, turn));
+    let paid = u64::from(step).saturating_mul(takes);
+    let back = u64::from(step).saturating_mul(raises);
     goes_by(rom, bound, lines, turn) && paid < turn_cycles(rom, turn).saturating_add(back)
 }
 

@@ -12,7 +12,7 @@ returns-then-goes_by c unpaid =
     let turn = c.args.turn.now in
     let goes = c.goes_by.ensures c.if-goes_by.true in
     let back : turn_takes rom bound lines turn ≤ turn_raises rom bound lines turn =
-    omega (arith, c.turn_takes.ensures, leb-true c.turn_takes.result c.turn_raises.result unpaid, c.turn_raises.ensures) in
+    omega (arith, c.turn_moves-takes.ensures.takes, leb-true c.turn_moves-takes.result.0 c.turn_moves-takes.result.1 unpaid, c.turn_moves-takes.ensures.raises) in
     record {
       turn = turn;
       some = omega arith;

@@ -1,6 +1,0 @@
-use Rattle.std.proofs.Common.{◌≤◌, take}
-use Rattle.cycle_check.specs.Obstacles.{turn_raises}
-use Rattle.cycle_check.proofs.turn.turn_raises.Given as goal
-
-abbrev pub invariant-loop-address : goal.invariant-loop-address
-invariant-loop-address l = l.raises ≤ turn_raises l.rom l.bound l.lines (take l.address-index l.turn)
