@@ -189,7 +189,7 @@ module _ (rom : List ℕ) (bound : Bound) (lines : List Line) (made : AreMade ro
           address = omega (arith, inside.1);
           x = x_fits line.x led.0 (fits_led line.address led.0 line led.1 (own i d within)) (x_low line.address led.0 led.1);
           base = rw (own i d within) at low;
-          step = steps i d within;
+          step = omega (arith, steps i d within);
           fact = subst (λ (l : Line). IsOfByte l.fact) (get_or-map without_costs lines i d d within) (made.of_ways.bytes i d (rw length-map within));
         }
 

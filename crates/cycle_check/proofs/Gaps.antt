@@ -1,7 +1,7 @@
--- Lines with one STEP that BASEs close are closed with lesser ones too: no gaps between BASEs are wider than what an instruction asks for.
+-- Lines with low STEPs that BASEs close are closed with lesser ones too: no gaps between BASEs are wider than what an instruction asks for.
 use Rattle.std.proofs.Common.{◌≡◌, ℕ, zero, suc, ◌+◌, ◌-◌, ◌*◌, ◌<◌, ◌≤◌, ◌&&◌, ◌||◌, if◌then◌else◌, Bool, true, false, eqb, leb, ltb, Option, Some, None, List, [], ◌∷◌, length, get_or, map, le_refl, ◌/◌, refl, sym, subst, arith, inl, inr}
-use Rattle.std.specs.List.{All, Any, list_any}
-use Rattle.std.specs.Prelude.{option_map, IfSome}
+use Rattle.std.specs.List.{All, list_any}
+use Rattle.std.specs.Prelude.{option_map, IfSome, MatchOption}
 use Rattle.std.proofs.lemmas.Bool.{and_parts, and_from, cases_Bool, cases_eq, cases_lt, leb-true, le-leb, lt-ltb, ltb-true}
 use Rattle.std.proofs.lemmas.List.Folds.{list_any_at}
 use Rattle.std.proofs.lemmas.List.{get_or-map, length-map}
@@ -13,7 +13,8 @@ use Rattle.cycle_check.specs.declared.grammar.Line.{Line}
 use Rattle.cycle_check.specs.declared.closed.Instruction.{Instruction}
 use Rattle.cycle_check.specs.Closed.{byte_at, instruction_at, is_closed, line_at}
 use Rattle.cycle_check.specs.Forward.{AreMade}
-use Rattle.cycle_check.specs.Obstacles.{AreClosed, IsGrown, IsOfByte, level_step, most_straight, with_base, with_bases, without_costs}
+use Rattle.cycle_check.specs.Obstacles.{AreClosed, AreLowSteps, IsGrown, IsOfByte, level_step, with_base, with_bases, without_costs}
+use Rattle.cycle_check.specs.Pace.{IsOver}
 use Rattle.cycle_check.proofs.Carried.{IsCarried, closed_carried}
 use Rattle.cycle_check.proofs.Drawing.{Inside, reached_inside}
 use Rattle.cycle_check.proofs.Lookup.{found_some, line_at-map}
@@ -124,9 +125,9 @@ module _ (gap : ℕ) where
   few_used (value ∷ values) n =
       omega (arith, count_or (is_near value) (is_used values) n, few_used values n, (few_near value n).1)
 
--- ---- lines with one STEP
+-- ---- lines with low STEPs
 
--- what a BASE has to exceed that of a line behind it by, at most: the cycles of an instruction, and the STEP for each unit of the counter
+-- what a BASE has to exceed that of a line behind it by, at most: the cycles of an instruction, and that line's STEP for each unit of the counter
 abbrev most_gap : ℕ
 most_gap = 3 + level_step * 255
 
@@ -136,11 +137,11 @@ few_cycles byte = elim (cases_Bool (eqb (byte / 16) 0xc)) [
   | inr short ↦ rw short (omega arith)
 ]
 
-takes_few : (rom : List ℕ) (address : ℕ) → (instruction_at rom address).cycles ≤ 3
+pub takes_few : (rom : List ℕ) (address : ℕ) → (instruction_at rom address).cycles ≤ 3
 unfolding instruction_at
 takes_few rom address = few_cycles (byte_at rom address)
 
-module _ (rom : List ℕ) (bound : Bound) (lines : List Line) (base : ℕ → ℕ) (steps : All (λ line. line.step ≡ level_step) lines)
+module _ (rom : List ℕ) (bound : Bound) (lines : List Line) (base : ℕ → ℕ) (steps : AreLowSteps lines)
     (bytes : All (λ line. IsOfByte line.fact) lines) (closed : AreClosed rom bound (with_bases base lines)) where
   abbrev bases : List ℕ
   bases = map (λ line. base line.address) lines
@@ -155,22 +156,20 @@ module _ (rom : List ℕ) (bound : Bound) (lines : List Line) (base : ℕ → �
     abbrev i : Instruction
     i = instruction_at rom line.address
 
-    line_exceeds : (to other v w : ℕ) → other ≡ level_step → w < 256 → i.cycles + (to + other * w) ≤ base line.address + line.step * v
+    line_exceeds : (to other v w : ℕ) → other ≤ level_step → w < 256 → i.cycles + (to + other * w) ≤ base line.address + line.step * v
         → i.cycles + (without_gaps most_gap bases to + other * w) ≤ less line.address + line.step * v
-    line_exceeds to other v w other_is small asks =
-        let own_is = steps place d low in
-        let all = rw (own_is, other_is) at asks in
-        rw (own_is, other_is)
-        (omega (
+    line_exceeds to other v w low_step small asks =
+        let costs : other * w ≤ level_step * 255 = mul-le other w level_step 255 low_step (omega (arith, small)) in
+        omega (
           arith,
-          exceeds most_gap bases place (base line.address) to (i.cycles + level_step * w) (level_step * v) (rw length-map low)
-              (get_or-map (λ (l : Line). base l.address) lines place d 0 low) (omega (arith, takes_few rom line.address, small)) (omega (arith, all)),
-        ))
+          exceeds most_gap bases place (base line.address) to (i.cycles + other * w) (line.step * v) (rw length-map low)
+              (get_or-map (λ (l : Line). base l.address) lines place d 0 low) (omega (arith, takes_few rom line.address, costs)) (omega (arith, asks)),
+        )
 
     out_exceeds : (v : ℕ) → i.cycles ≤ base line.address + line.step * v → i.cycles ≤ less line.address + line.step * v
-    out_exceeds v asks = omega (arith, line_exceeds 0 level_step v 0 refl (omega arith) (omega (arith, asks)))
+    out_exceeds v asks = omega (arith, line_exceeds 0 0 v 0 (omega arith) (omega arith) (omega (arith, asks)))
 
-    one_carried : (found : Option Line) → IfSome found (λ l. l.step ≡ level_step)
+    one_carried : (found : Option Line) → IfSome found (λ l. l.step ≤ level_step)
         → IsCarried line (base line.address) line.step (less line.address) line.step i (option_map (with_base base) found) (option_map (with_base less) found)
     one_carried None step = tt
     one_carried (Some next) step =
@@ -180,7 +179,7 @@ module _ (rom : List ℕ) (bound : Bound) (lines : List Line) (base : ℕ → �
         → IsCarried line (base line.address) line.step (less line.address) line.step i (line_at (with_bases base lines) to) (line_at (with_bases less lines) to)
     each_carried to =
         rw (line_at-map (with_base base) (λ l. refl) lines to, line_at-map (with_base less) (λ l. refl) lines to)
-        (one_carried (line_at lines to) (found_some (λ l. l.step ≡ level_step) lines to steps))
+        (one_carried (line_at lines to) (found_some (λ l. l.step ≤ level_step) lines to steps))
 
   -- the BASEs without the gaps close the lines too
   less_closed : AreClosed rom bound (with_bases less lines)
@@ -202,7 +201,7 @@ module _ (rom : List ℕ) (bound : Bound) (lines : List Line) (base : ℕ → �
 -- ---- lines of one for each address
 
 module _ (rom : List ℕ) (bound : Bound) (lines : List Line) (made : AreMade rom bound lines) where
-  inside : (i : ℕ) (d : Line) → i < length lines → Inside rom bound (get_or lines i d).address
+  pub inside : (i : ℕ) (d : Line) → i < length lines → Inside rom bound (get_or lines i d).address
   inside i d low =
       let Q : Line → Type 0 = λ l. Inside rom bound l.address in
       subst Q (get_or-map without_costs lines i d (without_costs d) low)
@@ -227,14 +226,15 @@ module _ (rom : List ℕ) (bound : Bound) (lines : List Line) (made : AreMade ro
       subst Q (get_or-map without_costs lines i d (without_costs d) low) (made.of_ways.bytes i (without_costs d) (rw length-map low))
 
   -- no BASEs close lines of which one has so great a BASE, since without gaps none does
-  pub grown_open : (address : ℕ) → All (λ line. line.step ≡ level_step) lines → Any (λ line. (line.address ≡ address) × (most_straight < line.base)) lines
-      → (base : ℕ → ℕ) → AreClosed rom bound (with_bases base lines) → ⊥
-  grown_open address steps more base closed =
-      let least = made.least (less rom bound lines base steps all_bytes closed) (less_closed rom bound lines base steps all_bytes closed) more.0 more.1 more.2 in
-      let few = few_less rom bound lines base steps all_bytes closed more.1.address in
+  pub over_open : AreLowSteps lines → (address : ℕ) → IsOver lines address → (base : ℕ → ℕ) → AreClosed rom bound (with_bases base lines) → ⊥
+  over_open steps address over base closed =
+      let least = made.least (less rom bound lines base steps all_bytes closed) (less_closed rom bound lines base steps all_bytes closed) over.0 over.1 over.2 in
+      let few = few_less rom bound lines base steps all_bytes closed over.1.address in
       let all = mul-le (length lines) most_gap 2048 most_gap few_lines (le_refl most_gap) in
-      omega (arith, rw more.3 at least, few, all, more.4.1)
+      omega (arith, rw over.3 at least, few, all, over.4.1)
 
-  pub is_grown : (address : ℕ) → All (λ line. line.step ≡ level_step) lines → Any (λ line. (line.address ≡ address) × (most_straight < line.base)) lines
-      → IsGrown rom bound lines address
-  is_grown address steps more = record { level = steps; more = more; stays_open = grown_open address steps more }
+  pub grown : All (λ line. line.step ≡ level_step) lines → (P : Type 0) (found : Option ℕ) → MatchOption found P (IsOver lines)
+      → MatchOption found P (IsGrown rom bound lines)
+  grown level P None holds = holds
+  grown level P (Some address) over =
+      record { level = level; more = over; stays_open = over_open (λ i d within. omega (arith, level i d within)) address over }

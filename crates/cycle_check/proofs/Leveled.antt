@@ -12,8 +12,8 @@ use Rattle.cycle_check.specs.declared.grammar.Line.{Line}
 use Rattle.cycle_check.specs.Certificate.{most_left}
 use Rattle.cycle_check.specs.Closed.{cause_at, first_from, instruction_at, is_allowed, is_closed, line_at}
 use Rattle.cycle_check.specs.Forward.{AreMade, IsOpenAt, level}
-use Rattle.cycle_check.specs.Obstacles.{AreReached, HasLowBase, level_step, most_straight, with_base, without_costs}
-use Rattle.cycle_check.specs.Pace.{DifferInBases}
+use Rattle.cycle_check.specs.Obstacles.{AreClosed, AreReached, HasLowBase, level_step, most_straight, with_base, without_costs}
+use Rattle.cycle_check.specs.Pace.{AreSettled, AreWithin, DifferInBases}
 use Rattle.cycle_check.specs.Reading.{AreRising, AreStrict}
 use Rattle.cycle_check.proofs.Drawing.{found_all}
 use Rattle.cycle_check.proofs.Lookup.{address_of-found}
@@ -25,7 +25,7 @@ module _ (step : Line → ℕ) where
   abbrev flat : Line → Line
   flat line = record line { base = 0; step = step line }
 
-  flat_bare : (lines : List Line) → map without_costs (map flat lines) ≡ map without_costs lines
+  pub flat_bare : (lines : List Line) → map without_costs (map flat lines) ≡ map without_costs lines
   flat_bare [] = refl
   flat_bare (line ∷ lines) = ap (λ others. without_costs line ∷ others) (flat_bare lines)
 
@@ -50,6 +50,17 @@ module _ (step : Line → ℕ) where
 pub level_steps : (lines : List Line) → All (λ (l : Line). l.step ≡ level_step) (map level lines)
 level_steps lines = All-map (λ (l : Line). l.step ≡ level_step) level lines (λ i d within. refl)
 
+-- lines with that STEP that are closed with BASEs which aren't too great
+pub level_settled : (rom : List ℕ) (bound : Bound) (lines : List Line) → AreMade rom bound lines → AreClosed rom bound lines → AreWithin lines
+    → All (λ (l : Line). l.step ≡ level_step) lines → AreSettled rom bound lines
+level_settled rom bound lines made closed within same = record {
+  made = made;
+  closed = closed;
+  within = within;
+  steps = λ i d low. omega (arith, same i d low);
+  one = λ i d low j e high joined. same j e high ∙ sym (same i d low);
+}
+
 -- one more of the lines
 pub one_mapped : (f : Line → Line) (old new lines : List Line) (i : ℕ) (d : Line) → i < length lines → old ≡ map f (take i lines)
     → new ≡ old ++ f (get_or lines i d) ∷ [] → new ≡ map f (take (i + 1) lines)
@@ -72,14 +83,11 @@ module _ (old new : List Line) (differ : DifferInBases old new) where
       let f : Line → Line = with_base (λ a. 0) in
       sym (length-map new f) ∙ ap (λ (ls : List Line). length ls) (differ (λ a. 0)) ∙ length-map old f
 
-  same_but : (i : ℕ) (d : Line) → i < length new → with_base (λ a. 0) (get_or new i d) ≡ with_base (λ a. 0) (get_or old i d)
+  pub same_but : (i : ℕ) (d : Line) → i < length new → with_base (λ a. 0) (get_or new i d) ≡ with_base (λ a. 0) (get_or old i d)
   same_but i d within =
       let f : Line → Line = with_base (λ a. 0) in
       sym (get_or-map f new i d d within) ∙ ap (λ (ls : List Line). get_or ls i d) (differ (λ a. 0))
       ∙ get_or-map f old i d d (omega (arith, within, same_length))
-
-  pub same_addresses : (i : ℕ) (d : Line) → i < length new → (get_or new i d).address ≡ (get_or old i d).address
-  same_addresses i d within = ap (λ (l : Line). l.address) (same_but i d within)
 
   pub same_steps : (P : ℕ → Type 0) → All (λ (l : Line). P l.step) old → All (λ (l : Line). P l.step) new
   same_steps P all i d within =
@@ -92,10 +100,10 @@ abbrev pub room : Line → ℕ
 room line = 4_294_967_295 - line.base
 
 module _ (rom : List ℕ) (bound : Bound) (lines : List Line) (place to : ℕ) (line : Line) (here : IsOpenAt rom bound lines place line) where
-  pub raised_smaller : (most : ℕ) → most ≤ most_straight → line.base ≤ most → line.base < to → sum_by room (set lines place (record line { base = to })) < sum_by room lines
-  raised_smaller most straight low more =
+  pub raised_smaller : line.base ≤ most_straight → line.base < to → sum_by room (set lines place (record line { base = to })) < sum_by room lines
+  raised_smaller low more =
       let sums = sum_by-set room lines place (record line { base = to }) line here.within in
-      omega (arith, straight, low, more, rw (here.there line) at sums)
+      omega (arith, low, more, rw (here.there line) at sums)
 
 -- ---- the address of the first line that nothing stands against
 

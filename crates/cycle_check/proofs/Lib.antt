@@ -12,9 +12,12 @@ pub mod Shown
 pub mod Soundness
 pub mod Leading
 pub mod Raised
+pub mod Ranked
 pub mod Saying
 pub mod Appends
+pub mod LeastSteps
 pub mod Leveled
+pub mod Mixed
 pub mod Pacing
 pub mod Unpaid
 pub mod Carried

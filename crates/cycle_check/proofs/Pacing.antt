@@ -1,8 +1,8 @@
 -- Lines whose STEPs are lowered, and STEPs that aren't too great.
-use Rattle.std.proofs.Common.{◌≡◌, ℕ, zero, suc, ◌+◌, ◌-◌, ◌<◌, ◌≤◌, true, true≢false, eqb, Option, Some, None, List, [], ◌∷◌, length, get_or, refl, sym, ap, subst, ◌∙◌, arith, inl, inr, le_refl}
+use Rattle.std.proofs.Common.{◌≡◌, ℕ, zero, suc, ◌+◌, ◌<◌, ◌≤◌, true, eqb, Option, Some, None, List, [], ◌∷◌, length, get_or, map, refl, sym, ap, subst, ◌∙◌, arith, inl, inr}
 use Rattle.std.specs.List.{All, Any, sum_by}
-use Rattle.std.specs.Option.{MatchOption, option_map_or}
-use Rattle.std.specs.Prelude.{option_map, slice_index}
+use Rattle.std.specs.Option.{MatchOption}
+use Rattle.std.specs.Prelude.{option_map}
 use Rattle.std.proofs.lemmas.Bool.{cases_Bool, eqb-true, lt-ltb}
 use Rattle.std.proofs.lemmas.List.{get_or_default, get_or-map, length-map}
 use Rattle.std.proofs.lemmas.List.Elements.{All-map}
@@ -10,18 +10,16 @@ use Rattle.std.proofs.lemmas.List.Sums.{sum_by-cons}
 use Rattle.std.proofs.lemmas.Option.{same_Some}
 use Rattle.cycle_check.specs.declared.grammar.Bound.{Bound}
 use Rattle.cycle_check.specs.declared.grammar.Line.{Line}
-use Rattle.cycle_check.specs.Certificate.{most_left}
-use Rattle.cycle_check.specs.Closed.{instruction_at, is_closed, line_at}
+use Rattle.cycle_check.specs.Closed.{lets_through, line_at}
 use Rattle.cycle_check.specs.Forward.{AreMade}
-use Rattle.cycle_check.specs.Obstacles.{AreClosed, AreJoined, AreLeast, IsLeastOfLoop, IsLowered, IsShort, Leads, most_straight, with_base, with_bases, with_costs}
-use Rattle.cycle_check.specs.Pace.{AreLess, AreSettled, AreWithin, DifferInBases, IsOver, StayOpen, all_lowered, is_among, lowered}
+use Rattle.cycle_check.specs.Obstacles.{AreClosed, AreLowSteps, HasOneStep, IsLeastAlone, IsLeastOfLoop, IsPaced, Leads, LeadsBy, level_step, with_base, with_bases, without_costs}
+use Rattle.cycle_check.specs.Obstacles.Leads.{Further, Once}
+use Rattle.cycle_check.specs.Pace.{AreLess, AreSettled, AreWithin, DifferInBases, IsOver, IsWhole, StayOpen, all_lowered, is_among, lowered}
 use Rattle.cycle_check.specs.Reading.{AreStrict}
 use Rattle.cycle_check.proofs.Drawing.{found_all}
-use Rattle.cycle_check.proofs.Leveled.{flat_made, same_addresses, same_length, same_steps}
-use Rattle.cycle_check.proofs.Lookup.{address_of-found, line_at-found, line_at-map}
-use Rattle.cycle_check.proofs.Raised.{IsNoMore, closed-less}
-use Rattle.cycle_check.proofs.Reaching.{leads_on, turn_leads}
-use Rattle.cycle_check.proofs.Unpaid.{short_open}
+use Rattle.cycle_check.proofs.Gaps.{over_open}
+use Rattle.cycle_check.proofs.Leveled.{flat_bare, flat_made, same_but, same_length, same_steps}
+use Rattle.cycle_check.proofs.Lookup.{line_at-found, line_at-map}
 
 pub match_weaker : {X : Type 0} (o : Option X) (P P2 : Type 0) (Q Q2 : X → Type 0) → (P → P2) → ((x : X) → Q x → Q2 x) → MatchOption o P Q
     → MatchOption o P2 Q2
@@ -53,7 +51,7 @@ differ_steps : (old new : List Line) → DifferInBases old new → steps new ≡
 differ_steps old new differ = sym (based_steps (λ a. 0) new) ∙ ap steps (differ (λ a. 0)) ∙ based_steps (λ a. 0) old
 
 module _ (addresses : List ℕ) where
-  step_less : (line : Line) → (lowered addresses line).step ≤ line.step
+  pub step_less : (line : Line) → (lowered addresses line).step ≤ line.step
   step_less line = elim (cases_Bool (is_among addresses line.address)) [
     | inl here ↦ rw here (omega arith)
     | inr other ↦ rw other (omega arith)
@@ -80,38 +78,96 @@ module _ (addresses : List ℕ) where
       let others = lowered_less lines (k, line, omega (arith, within), is, here) in
       rw (lowered_cons first lines, sum_by-cons (λ (l : Line). l.step) first lines) (omega (arith, step_less first, others))
 
+-- ---- lines with the same addresses and facts lead to the same lines
+
+module _ (rom : List ℕ) (bound : Bound) (old new : List Line) (same : map without_costs old ≡ map without_costs new) where
+  same_found : (a : ℕ) (line : Line) → line_at new a ≡ Some line → (other : Line) × (line_at old a ≡ Some other) × (without_costs other ≡ without_costs line)
+  same_found a line there = of (line_at old a) (
+      sym (line_at-map without_costs (λ l. refl) old a) ∙ ap (λ (ls : List Line). line_at ls a) same ∙ line_at-map without_costs (λ l. refl) new a
+      ∙ ap (option_map without_costs) there)
+    where
+      of : (found : Option Line) → option_map without_costs found ≡ Some (without_costs line)
+          → (other : Line) × (found ≡ Some other) × (without_costs other ≡ without_costs line)
+      of None is = cc
+      of (Some other) is = (other, refl, same_Some (without_costs other) (without_costs line) is)
+
+  same_by : (a to : ℕ) → LeadsBy rom bound new a to → LeadsBy rom bound old a to
+  same_by a to by =
+      let line = same_found a by.line by.there in
+      let behind = same_found to by.behind by.ends in record {
+        line = line.0;
+        there = line.1;
+        behind = behind.0;
+        ends = behind.1;
+        way = by.way;
+        is = by.is;
+        through = ap (λ (l : Line). lets_through l.fact by.way.when) line.2 ∙ by.through;
+      }
+
+  pub same_leads : (a to : ℕ) → Leads rom bound new a to → Leads rom bound old a to
+  same_leads _ _ (Once a to by) = Once a to (same_by a to by)
+  same_leads _ _ (Further a next to by others) = Further a next to (same_by a next by) (same_leads next to others)
+
 -- ---- lowered lines that are closed, or that stay open
 
-pub stays_open : (rom : List ℕ) (bound : Bound) (most : ℕ) (old new : List Line) (address : ℕ) → DifferInBases old new → AreLeast rom bound new
-    → IsOver most new address → StayOpen rom bound most old
-stays_open rom bound most old new address differ least (k, line, within, is, (named, more)) base closed low =
-    let under = least base (subst (AreClosed rom bound) (sym (differ base)) closed) k line within in
-    let same = same_addresses old new differ k line within in
-    let here = low k line (omega (arith, within, same_length old new differ)) in
-    let over = subst (λ (l : Line). most < l.base) (sym is) more in
-    omega (arith, over, under, subst (λ (a : ℕ). base a ≤ most) (sym same) here)
-
-pub are_less : (rom : List ℕ) (bound : Bound) (most : ℕ) (addresses : List ℕ) (lines new : List Line) → AreSettled rom bound lines → most ≤ most_straight
-    → Any (λ line. (is_among addresses line.address ≡ true) × (0 < line.step)) lines → DifferInBases (all_lowered addresses lines) new
-    → AreMade rom bound new → AreClosed rom bound new → AreWithin most new → AreLess rom bound lines new
-are_less rom bound most addresses lines new settled straight some differ made closed within = record {
-  settled = record {
-    made = made;
-    closed = closed;
-    within = λ i d low. omega (arith, straight, within i d low);
-    steps =
-        same_steps (all_lowered addresses lines) new differ (λ n. n ≤ most_left)
-        (All-map (λ (l : Line). l.step ≤ most_left) (lowered addresses) lines (λ i d low. omega (arith, step_less addresses (get_or lines i d), settled.steps i d low)));
-  };
-  less = omega (arith, lowered_less addresses lines some, differ_steps (all_lowered addresses lines) new differ);
-}
+based_bare : (base : ℕ → ℕ) (lines : List Line) → map without_costs (with_bases base lines) ≡ map without_costs lines
+based_bare base [] = refl
+based_bare base (line ∷ lines) = ap (λ others. without_costs line ∷ others) (based_bare base lines)
 
 pub lowered_made : (rom : List ℕ) (bound : Bound) (addresses : List ℕ) (lines : List Line) → AreMade rom bound lines → AreMade rom bound (all_lowered addresses lines)
 lowered_made rom bound addresses lines made = flat_made (λ line. (lowered addresses line).step) rom bound lines made
 
+module _ (rom : List ℕ) (bound : Bound) (addresses : List ℕ) (lines new : List Line) (settled : AreSettled rom bound lines)
+    (differ : DifferInBases (all_lowered addresses lines) new) where
+  same_bare : map without_costs lines ≡ map without_costs new
+  same_bare =
+      sym (flat_bare (λ line. (lowered addresses line).step) lines) ∙ sym (based_bare (λ a. 0) (all_lowered addresses lines))
+      ∙ ap (map without_costs) (sym (differ (λ a. 0))) ∙ based_bare (λ a. 0) new
+
+  low_steps : AreLowSteps new
+  low_steps =
+      same_steps (all_lowered addresses lines) new differ (λ n. n ≤ level_step)
+      (All-map (λ (l : Line). l.step ≤ level_step) (lowered addresses) lines (λ i d low. omega (arith, step_less addresses (get_or lines i d), settled.steps i d low)))
+
+  low_from : (i : ℕ) → i < length new → i < length lines
+  low_from i within = omega (arith, within, same_length (all_lowered addresses lines) new differ, length-map lines (lowered addresses))
+
+  -- a line has the address of the one that was lowered, and its STEP
+  new_at : (i : ℕ) (d : Line) → i < length new → with_base (λ a. 0) (get_or new i d) ≡ with_base (λ a. 0) (lowered addresses (get_or lines i d))
+  new_at i d within =
+      same_but (all_lowered addresses lines) new differ i d within
+      ∙ ap (with_base (λ a. 0)) (get_or-map (lowered addresses) lines i d d (low_from i within))
+
+  same_lowered : (one other : Line) → is_among addresses one.address ≡ is_among addresses other.address → one.step ≡ other.step
+      → (lowered addresses one).step ≡ (lowered addresses other).step
+  same_lowered one other among step = rw (among, step) refl
+
+  one_step : IsWhole rom bound lines addresses → All (HasOneStep rom bound new) new
+  one_step whole i d within j e low joined =
+      let line = get_or lines i d in
+      let other = get_or lines j e in
+      let here : (get_or new i d).address ≡ line.address = ap (λ (l : Line). l.address) (new_at i d within) in
+      let there : (get_or new j e).address ≡ other.address = ap (λ (l : Line). l.address) (new_at j e low) in
+      let forth = same_leads rom bound lines new same_bare line.address other.address (rw (here, there) at joined.0) in
+      let back = same_leads rom bound lines new same_bare other.address line.address (rw (here, there) at joined.1) in
+      ap (λ (l : Line). l.step) (new_at j e low)
+      ∙ same_lowered other line (whole other.address line.address (back, forth)) (settled.one i d (low_from i within) j e (low_from j low) (forth, back))
+      ∙ sym (ap (λ (l : Line). l.step) (new_at i d within))
+
+  pub are_less : IsWhole rom bound lines addresses → Any (λ line. (is_among addresses line.address ≡ true) × (0 < line.step)) lines
+      → AreMade rom bound new → AreClosed rom bound new → AreWithin new → AreLess rom bound lines new
+  are_less whole some made closed within = record {
+    settled = record { made = made; closed = closed; within = within; steps = low_steps; one = one_step whole };
+    less = omega (arith, lowered_less addresses lines some, differ_steps (all_lowered addresses lines) new differ);
+  }
+
+  pub stays_open : AreMade rom bound new → (address : ℕ) → IsOver new address → StayOpen rom bound (all_lowered addresses lines)
+  stays_open made address over base closed =
+      over_open rom bound new made low_steps address over base (subst (AreClosed rom bound) (sym (differ base)) closed)
+
 -- ---- addresses of lines
 
-among_all : (P : ℕ → Type 0) (addresses : List ℕ) (a : ℕ) → All P addresses → is_among addresses a ≡ true → P a
+pub among_all : (P : ℕ → Type 0) (addresses : List ℕ) (a : ℕ) → All P addresses → is_among addresses a ≡ true → P a
 among_all P [] a all here = cc
 among_all P (first ∷ others) a all here = elim (cases_Bool (eqb first a)) [
   | inl same ↦ subst P (eqb-true first a same) (all 0 first (omega arith))
@@ -124,119 +180,22 @@ there_at lines strict i d within =
     (λ k e low high. lt-ltb (get_or lines k e).address (get_or lines i d).address
     (rw (get_or_default lines i d e within) (strict k i e high within))) refl
 
--- ---- a loop
-
-module _ (rom : List ℕ) (bound : Bound) (all : List Line) (address : ℕ) (joined : List ℕ) (base step : ℕ → ℕ) where
-  step_joined : (line : Line) → (is_among joined line.address ≡ true → AreJoined rom bound all address line.address)
-      → (AreJoined rom bound all address line.address → is_among joined line.address ≡ true) → IsLowered rom bound all address step line
-      → step line.address ≡ (lowered joined line).step
-  step_joined line only known low = elim (cases_Bool (is_among joined line.address)) [
-    | inl here ↦ rw here (low.0 (only here))
-    | inr other ↦ rw other (low.1 (λ j. true≢false (sym (known j) ∙ other)))
-  ]
-
-  costs_lowered : (lines : List Line) → All (λ (line : Line). step line.address ≡ (lowered joined line).step) lines
-      → with_costs base step lines ≡ with_bases base (all_lowered joined lines)
-  costs_lowered [] same = refl
-  costs_lowered (line ∷ lines) same =
-      ap (λ (n : ℕ). record line { base = base line.address; step = n } ∷ with_costs base step lines) (same 0 line (omega arith))
-      ∙ ap (λ (ls : List Line). with_base base (lowered joined line) ∷ ls) (costs_lowered lines (λ i d within. same (suc i) d (omega (arith, within))))
-
-pub least_lowered : (rom : List ℕ) (bound : Bound) (lines : List Line) (address : ℕ) (joined : List ℕ) → All (AreJoined rom bound lines address) joined
-    → All (λ (line : Line). AreJoined rom bound lines address line.address → is_among joined line.address ≡ true) lines
-    → StayOpen rom bound most_left (all_lowered joined lines) → IsLeastOfLoop rom bound lines address
-least_lowered rom bound lines address joined only known stay base step low closed bases =
-    let same = costs_lowered rom bound lines address joined base step lines (λ i d within.
-    let line = get_or lines i d in
-    step_joined rom bound lines address joined base step line (among_all (AreJoined rom bound lines address) joined line.address only) (known i d within)
-    (low i d within)) in
-    stay base (subst (AreClosed rom bound) same closed) (All-map (λ (l : Line). base l.address ≤ most_left) (lowered joined) lines bases)
-
--- a turn of its lines that costs more than a STEP of one less pays for
-module _ (rom : List ℕ) (bound : Bound) (lines : List Line) (address : ℕ) (turn : List ℕ) (t : ℕ) (short : IsShort rom bound lines turn (t - 1))
-    (same : All (λ a. (line : Line) × (line_at lines a ≡ Some line) × (line.step ≡ t)) turn)
-    (forth : Leads rom bound lines address (slice_index turn 0)) (back : Leads rom bound lines (slice_index turn 0) address) where
-  joined_at : (i : ℕ) → i < length turn → AreJoined rom bound lines address (slice_index turn i)
-  joined_at i low = (
-    leads_on rom bound lines address (slice_index turn 0) (slice_index turn i) forth (turn_leads rom bound lines turn short.goes 0 i short.some low),
-    leads_on rom bound lines (slice_index turn i) (slice_index turn 0) address (turn_leads rom bound lines turn short.goes i 0 low short.some) back,
-  )
-
-  step_at : (step : ℕ → ℕ) → All (IsLowered rom bound lines address step) lines → (i : ℕ) → i < length turn → step (slice_index turn i) ≡ t - 1
-  step_at step lowered i low =
-      let a = slice_index turn i in
-      let found = same i 0 low in
-      let is = address_of-found lines a found.0 found.1 in
-      let here = found_all (IsLowered rom bound lines address step) lines a found.0 found.1 lowered in
-      ap step (sym is) ∙ here.0 (subst (AreJoined rom bound lines address) (sym is) (joined_at i low)) ∙ ap (λ n. n - 1) found.2
-
-  pub least_turn : IsLeastOfLoop rom bound lines address
-  least_turn base step lowered closed bases = short_open rom bound lines turn (t - 1) short base step (step_at step lowered) closed
-
--- ---- a line of no loop
-
-abbrev base_in : List Line → ℕ → ℕ
-base_in lines a = option_map_or (λ (line : Line). line.base) (line_at lines a) 0
+-- ---- a line with the least STEP
 
 module _ (rom : List ℕ) (bound : Bound) (lines : List Line) (settled : AreSettled rom bound lines) (line : Line)
-    (there : line_at lines line.address ≡ Some line)
-    (loose : is_closed bound lines (record line { step = line.step - 1 }) (instruction_at rom line.address) ≡ true) where
-  abbrev other : Line → Line
-  other = lowered (line.address ∷ [])
+    (there : line_at lines line.address ≡ Some line) where
+  has_one : HasOneStep rom bound lines line
+  has_one = found_all (HasOneStep rom bound lines) lines line.address line there settled.one
 
-  abbrev base : ℕ → ℕ
-  base = base_in lines
+  pub paced_without : line.step ≡ 0 → IsPaced rom bound lines line
+  paced_without none = record {
+    one = has_one;
+    of_loop = λ round less low base step same closed. omega (arith, none, low);
+    alone = λ apart less low. absurd (omega (arith, none, low));
+  }
 
-  base_there : (a : ℕ) (l : Line) → line_at lines a ≡ Some l → base a ≡ l.base
-  base_there a l is = ap (λ (o : Option Line). option_map_or (λ (x : Line). x.base) o 0) is
+  pub paced_of_loop : Leads rom bound lines line.address line.address → IsLeastOfLoop rom bound lines line → IsPaced rom bound lines line
+  paced_of_loop round least = record { one = has_one; of_loop = λ round. least; alone = λ apart. absurd (apart round) }
 
-  abbrev new : List Line
-  new = with_bases base (all_lowered (line.address ∷ []) lines)
-
-  new_at : (to : ℕ) → line_at new to ≡ option_map (with_base base) (option_map other (line_at lines to))
-  new_at to =
-      line_at-map (with_base base) (λ l. refl) (all_lowered (line.address ∷ []) lines) to
-      ∙ ap (option_map (with_base base)) (line_at-map other (λ l. refl) lines to)
-
-  less_there : (to : ℕ) (found : Option Line) → line_at lines to ≡ found → IsNoMore (option_map (with_base base) (option_map other found)) found
-  less_there to None is = tt
-  less_there to (Some l) is =
-      let here = base_there to l is in
-      let same = address_of-found lines to l is in
-      ((refl, refl), (omega (arith, rw (← same) at here), step_less (line.address ∷ []) l))
-
-  less_new : (to : ℕ) → IsNoMore (line_at new to) (line_at lines to)
-  less_new to = rw (new_at to) (less_there to (line_at lines to) refl)
-
-  closed_lowered : (i : ℕ) (d : Line) → i < length lines
-      → is_closed bound lines (record (get_or lines i d) { step = (other (get_or lines i d)).step }) (instruction_at rom (get_or lines i d).address) ≡ true
-  closed_lowered i d within =
-      let l = get_or lines i d in
-      elim (cases_Bool (eqb line.address l.address)) [
-        | inl same ↦
-            let at : line_at lines line.address ≡ Some l = rw (eqb-true line.address l.address same) (there_at lines settled.made.strict i d within) in
-            let is : line ≡ l = same_Some line l (sym there ∙ at) in
-            let P : Line → Type 0 = λ m. is_closed bound lines (record m { step = m.step - 1 }) (instruction_at rom m.address) ≡ true in
-            rw same (subst P is loose)
-        | inr apart ↦ rw apart (settled.closed i d within)
-      ]
-
-  closed_new : AreClosed rom bound new
-  closed_new i d within =
-      let low : i < length lines = rw (length-map, length-map) at within in
-      let l = get_or lines i d in
-      let at : get_or new i d ≡ with_base base (other l) =
-      get_or-map (with_base base) (all_lowered (line.address ∷ []) lines) i d d (rw length-map low) ∙ ap (with_base base) (get_or-map other lines i d d low) in
-      let more = base_there l.address l (there_at lines settled.made.strict i d low) in
-      let closed : is_closed bound new (with_base base (other l)) (instruction_at rom l.address) ≡ true =
-      closed-less l l.base (base l.address) (other l).step (other l).step (omega (arith, more)) (le_refl (other l).step) (instruction_at rom l.address) lines new
-      less_new bound (closed_lowered i d low) in
-      subst (λ (m : Line). is_closed bound new m (instruction_at rom m.address) ≡ true) (sym at) closed
-
-  low_new : All (λ (l : Line). base l.address ≤ most_straight) (all_lowered (line.address ∷ []) lines)
-  low_new =
-      All-map (λ (l : Line). base l.address ≤ most_straight) other lines (λ i d within.
-      omega (arith, base_there (get_or lines i d).address (get_or lines i d) (there_at lines settled.made.strict i d within), settled.within i d within))
-
-  pub loose_closes : StayOpen rom bound most_straight (all_lowered (line.address ∷ []) lines) → ⊥
-  loose_closes stay = stay base closed_new low_new
+  pub paced_alone : (Leads rom bound lines line.address line.address → ⊥) → IsLeastAlone rom bound lines line → IsPaced rom bound lines line
+  paced_alone apart least = record { one = has_one; of_loop = λ round. absurd (apart round); alone = λ apart. least }

@@ -1,5 +1,5 @@
 -- Why no certificate of a routine was found.
-use Rattle.std.specs.Prelude.{◌≡◌, ℕ, zero, suc, ◌+◌, ◌-◌, ◌*◌, ◌%◌, ◌<◌, ◌≤◌, ◌==◌, ◌&&◌, ◌||◌, not, nat_le, nat_lt, is_none, if◌then◌else◌, ◌⊎◌, Bool, true, false, List, length, map, slice_index, IfSome, Option, Some, None}
+use Rattle.std.specs.Prelude.{◌≡◌, ℕ, zero, suc, ◌+◌, ◌*◌, ◌%◌, ◌<◌, ◌≤◌, ◌==◌, ◌&&◌, ◌||◌, not, nat_le, nat_lt, is_none, if◌then◌else◌, ◌⊎◌, Bool, true, false, List, length, map, slice_index, IfSome, Option, Some, None}
 use Rattle.std.specs.List.{All, Any, sum_by}
 use Rattle.std.specs.Option.{option_map_or}
 use Rattle.machine.specs.declared.Kind.{Kind}
@@ -60,17 +60,17 @@ IsOfByte fact = Unit {0}
 abbrev pub level_step : ℕ
 level_step = 6_144
 
--- Where BASEs close lines with this STEP, some do so whose gaps are no wider than what an instruction asks for, 3 + 255 * 6,144 cycles: the greatest of them is
--- no more than 2,048 times that, which is less.
+-- Where BASEs close lines whose STEPs are no greater, some do so whose gaps are no wider than what an instruction asks for, 3 + 255 * 6,144 cycles: the greatest
+-- of them is no more than 2,048 times that, which is less.
 abbrev pub most_straight : ℕ
 most_straight = 4_000_000_000
 
--- each line has a BASE that a certificate may say, and a STEP
+-- each line has a BASE that a certificate may say
 abbrev pub HasLowBase : List Line → ℕ → Type 0
 HasLowBase lines address = IfSome (line_at lines address) (λ line. line.base ≤ most_left)
 
 abbrev pub AreLowSteps : List Line → Type 0
-AreLowSteps lines = All (λ line. line.step ≤ most_left) lines
+AreLowSteps lines = All (λ line. line.step ≤ level_step) lines
 
 -- lines with other BASEs, by their addresses
 abbrev pub with_base : (ℕ → ℕ) → Line → Line
@@ -323,25 +323,27 @@ module _ (rom : List ℕ) (bound : Bound) where
   abbrev pub AreJoined : List Line → ℕ → ℕ → Type 0
   AreJoined lines one other = Leads lines one other × Leads lines other one
 
-  -- STEPs that are one less at the lines of an address's loop, and else those that the lines have
-  abbrev pub IsLowered : List Line → ℕ → (ℕ → ℕ) → Line → Type 0
-  IsLowered lines address step other =
-      (AreJoined lines address other.address → step other.address ≡ other.step - 1)
-      × ((AreJoined lines address other.address → ⊥) → step other.address ≡ other.step)
+  -- all lines of a line's loop have its STEP
+  abbrev pub HasOneStep : List Line → Line → Type 0
+  HasOneStep lines line = All (λ other. AreJoined lines line.address other.address → other.step ≡ line.step) lines
 
-  -- With a STEP of one less for a loop no BASEs close the lines that a certificate may say.
-  abbrev pub IsLeastOfLoop : List Line → ℕ → Type 0
-  IsLeastOfLoop lines address = (base step : ℕ → ℕ) → All (IsLowered lines address step) lines → AreClosed (with_costs base step lines)
-      → All (λ line. base line.address ≤ most_left) lines → ⊥
+  -- With a lesser STEP for all lines of a line's loop no BASEs close the lines, whatever STEPs the others have.
+  abbrev pub IsLeastOfLoop : List Line → Line → Type 0
+  IsLeastOfLoop lines line = (less : ℕ) → less < line.step → (base step : ℕ → ℕ)
+      → All (λ other. AreJoined lines line.address other.address → step other.address ≡ less) lines → AreClosed (with_costs base step lines) → ⊥
 
-  -- A STEP isn't too great: that of a loop is the least; a line of no loop isn't closed with its BASE and a STEP of one less.
+  -- with its BASE and a lesser STEP a line isn't closed
+  abbrev pub IsLeastAlone : List Line → Line → Type 0
+  IsLeastAlone lines line = (less : ℕ) → less < line.step → is_closed bound lines (record line { step = less }) (instruction_at rom line.address) ≡ false
+
+  -- A loop has one STEP, which is the least; and a line of no loop has the least with its BASE.
   pub record IsPaced (lines : List Line) (line : Line) : Type 0 where
-    pub of_loop : Leads lines line.address line.address → IsLeastOfLoop lines line.address
-    pub alone : (Leads lines line.address line.address → ⊥)
-        → is_closed bound lines (record line { step = line.step - 1 }) (instruction_at rom line.address) ≡ false
+    pub one : HasOneStep lines line
+    pub of_loop : Leads lines line.address line.address → IsLeastOfLoop lines line
+    pub alone : (Leads lines line.address line.address → ⊥) → IsLeastAlone lines line
 
   abbrev pub ArePaced : List Line → Type 0
-  ArePaced lines = All (λ line. 0 < line.step → IsPaced lines line) lines
+  ArePaced lines = All (IsPaced lines) lines
 
   -- ---- turns that a STEP doesn't pay for
 
@@ -394,8 +396,7 @@ module _ (rom : List ℕ) (bound : Bound) where
 
   -- ---- Most
 
-  -- The least BASE of an address passes what a certificate may say, among closed lines of exactly the addresses that are reached, whose STEPs aren't too
-  -- great.
+  -- The least BASE of an address passes what a certificate may say, among closed lines of exactly the addresses that are reached, with the least STEPs.
   pub record IsMost (address : ℕ) : Type 0 where
     pub lines : List Line
     pub of_ways : AreOfWays rom bound lines

@@ -1,34 +1,26 @@
--- Closed lines whose STEPs are lowered until none is too great.
-use Rattle.std.specs.Prelude.{◌≡◌, ℕ, ◌-◌, ◌<◌, ◌≤◌, ◌==◌, if◌then◌else◌, Bool, List, map}
+-- Closed lines whose STEPs are lowered until each is the least.
+use Rattle.std.specs.Prelude.{◌≡◌, ℕ, ◌-◌, ◌<◌, ◌≤◌, ◌==◌, ◌⊎◌, if◌then◌else◌, Bool, true, List, map, slice_index_or, Some}
 use Rattle.std.specs.List.{All, Any, list_any, sum_by}
 use Rattle.cycle_check.specs.declared.grammar.Bound.{Bound}
 use Rattle.cycle_check.specs.declared.grammar.Line.{Line}
+use Rattle.cycle_check.specs.declared.ranks.Ranks.{Ranks}
+use Rattle.cycle_check.specs.declared.reach.Marks.{Marks}
+use Rattle.cycle_check.specs.Closed.{line_at}
 use Rattle.cycle_check.specs.Forward.{AreMade}
-use Rattle.cycle_check.specs.Obstacles.{AreClosed, AreLowSteps, most_straight, with_bases}
+use Rattle.cycle_check.specs.Obstacles.{AreClosed, AreJoined, AreLowSteps, HasOneStep, IsLeastOfLoop, Leads, LeadsBy, most_straight, with_bases}
+use Rattle.cycle_check.specs.Reach.{is_marked}
 
 -- lines that differ from others in their BASEs alone
 abbrev pub DifferInBases : List Line → List Line → Type 0
 DifferInBases old new = (base : ℕ → ℕ) → with_bases base new ≡ with_bases base old
 
--- no BASE is above this
-abbrev pub AreWithin : ℕ → List Line → Type 0
-AreWithin most lines = All (λ line. line.base ≤ most) lines
+-- no BASE passes what ways cost that come to no address twice
+abbrev pub AreWithin : List Line → Type 0
+AreWithin lines = All (λ line. line.base ≤ most_straight) lines
 
--- that of a line of an address is
-abbrev pub IsOver : ℕ → List Line → ℕ → Type 0
-IsOver most lines address = Any (λ line. (line.address ≡ address) × (most < line.base)) lines
-
--- lines with low STEPs are closed with the least BASEs, none of which passes what ways cost that come to no address twice
-pub record AreSettled (rom : List ℕ) (bound : Bound) (lines : List Line) : Type 0 where
-  pub made : AreMade rom bound lines
-  pub closed : AreClosed rom bound lines
-  pub within : AreWithin most_straight lines
-  pub steps : AreLowSteps lines
-
--- such lines with less STEPs than others
-pub record AreLess (rom : List ℕ) (bound : Bound) (lines others : List Line) : Type 0 where
-  pub settled : AreSettled rom bound others
-  pub less : sum_by (λ line. line.step) others < sum_by (λ line. line.step) lines
+-- that of a line of an address does
+abbrev pub IsOver : List Line → ℕ → Type 0
+IsOver lines address = Any (λ line. (line.address ≡ address) × (most_straight < line.base)) lines
 
 -- lines without BASEs, with a STEP of one less at some addresses
 abbrev pub is_among : List ℕ → ℕ → Bool
@@ -40,7 +32,51 @@ lowered addresses line = record line { base = 0; step = if is_among addresses li
 abbrev pub all_lowered : List ℕ → List Line → List Line
 all_lowered addresses = map (lowered addresses)
 
--- no BASEs up to this close the lines
-abbrev pub StayOpen : List ℕ → Bound → ℕ → List Line → Type 0
-StayOpen rom bound most lines =
-    (base : ℕ → ℕ) → AreClosed rom bound (with_bases base lines) → All (λ line. base line.address ≤ most) lines → ⊥
+-- the number of an address
+abbrev pub rank_at : Ranks → ℕ → ℕ
+rank_at ranks address = slice_index_or ranks.ranks.items (address - 0x8000) 0
+
+module _ (rom : List ℕ) (bound : Bound) where
+  -- Lines with low STEPs, one for each loop, are closed with the least BASEs, none of which passes that.
+  pub record AreSettled (lines : List Line) : Type 0 where
+    pub made : AreMade rom bound lines
+    pub closed : AreClosed rom bound lines
+    pub within : AreWithin lines
+    pub steps : AreLowSteps lines
+    pub one : All (HasOneStep rom bound lines) lines
+
+  -- such lines with less STEPs than others
+  pub record AreLess (lines others : List Line) : Type 0 where
+    pub settled : AreSettled others
+    pub less : sum_by (λ line. line.step) others < sum_by (λ line. line.step) lines
+
+  -- no BASEs close the lines
+  abbrev pub StayOpen : List Line → Type 0
+  StayOpen lines = (base : ℕ → ℕ) → AreClosed rom bound (with_bases base lines) → ⊥
+
+  module _ (lines : List Line) where
+    -- addresses of whole loops: of two lines of one loop both are among them, or none
+    abbrev pub IsWhole : List ℕ → Type 0
+    IsWhole addresses = (one other : ℕ) → AreJoined rom bound lines one other → is_among addresses one ≡ is_among addresses other
+
+    -- the lines of addresses that are marked are of no loop
+    abbrev pub AreAlone : Marks → Type 0
+    AreAlone marks = (address : ℕ) → is_marked marks address ≡ true → Leads rom bound lines address address → ⊥
+
+    -- those of addresses that are marked are of loops whose STEP is the least
+    abbrev pub AreLeastAt : Marks → Type 0
+    AreLeastAt marks =
+        (address : ℕ) (line : Line) → is_marked marks address ≡ true → line_at lines address ≡ Some line
+        → Leads rom bound lines address address × IsLeastOfLoop rom bound lines line
+
+    -- A way leads from a line to one with a lesser number, or to one with the same number and the same STEP.
+    abbrev pub IsOrdered : Ranks → (address to : ℕ) → LeadsBy rom bound lines address to → Type 0
+    IsOrdered ranks address to by =
+        (rank_at ranks to < rank_at ranks address) ⊎ ((rank_at ranks to ≡ rank_at ranks address) × (by.behind.step ≡ by.line.step))
+
+    abbrev pub AreOrdered : Ranks → Type 0
+    AreOrdered ranks = (address to : ℕ) (by : LeadsBy rom bound lines address to) → IsOrdered ranks address to by
+
+    -- each way of a line leads to one with a lesser number
+    abbrev pub Falls : Ranks → ℕ → Type 0
+    Falls ranks address = (to : ℕ) → LeadsBy rom bound lines address to → rank_at ranks to < rank_at ranks address

@@ -31,11 +31,11 @@ pub struct Found {
 
 // For each place with a line from which ones those were met first to which it leads.
 #[derive(Drop)]
-struct Reach {
+struct Sources {
     sources: Vec<Vec<Option<u16>>>,
 }
 
-impl Reach {
+impl Sources {
     // From which place one was met first on the ways from a start on.
     fn source(&self, start: u16, place: u16) -> Option<u16> {
         let Some(sources) = self.sources.get(usize::from(start)) else {
@@ -93,8 +93,8 @@ impl Reach {
 
 /// Finds the components of a routine, and turns in it that aren't counted.
 pub fn find_components(alloc: Global, graph: &Graph) -> Result<Found, AllocError> {
-    let reach = reach_of(alloc, graph, true)?;
-    let unpaid = reach_of(alloc, graph, false)?;
+    let reach = sources_in(alloc, graph, true)?;
+    let unpaid = sources_in(alloc, graph, false)?;
     Ok(Found {
         turn: first_turn(alloc, graph, &reach, &unpaid)?,
         unpaid: first_unpaid(alloc, &unpaid)?,
@@ -103,20 +103,20 @@ pub fn find_components(alloc: Global, graph: &Graph) -> Result<Found, AllocError
 }
 
 // By all ways, or only by those of lines that don't take from the counter.
-fn reach_of(alloc: Global, graph: &Graph, counts: bool) -> Result<Reach, AllocError> {
+fn sources_in(alloc: Global, graph: &Graph, counts: bool) -> Result<Sources, AllocError> {
     let mut sources = Vec::new(alloc);
     for place in 0..PLACES {
         sources.push(graph.sources(alloc, place, counts)?)?;
     }
-    Ok(Reach { sources })
+    Ok(Sources { sources })
 }
 
 // The turn that isn't counted whose place is the first: it takes nothing from the counter, or assigns it otherwise.
 fn first_turn(
     alloc: Global,
     graph: &Graph,
-    reach: &Reach,
-    unpaid: &Reach,
+    reach: &Sources,
+    unpaid: &Sources,
 ) -> Result<Vec<u16>, AllocError> {
     for place in 0..PLACES {
         if let Some(node) = graph.node(place) {
@@ -132,7 +132,7 @@ fn first_turn(
 }
 
 // The turn that takes nothing from the counter whose place is the first.
-fn first_unpaid(alloc: Global, unpaid: &Reach) -> Result<Vec<u16>, AllocError> {
+fn first_unpaid(alloc: Global, unpaid: &Sources) -> Result<Vec<u16>, AllocError> {
     for place in 0..PLACES {
         if unpaid.leads(place, place) {
             return unpaid.turn_at(alloc, place);
@@ -145,8 +145,8 @@ fn first_unpaid(alloc: Global, unpaid: &Reach) -> Result<Vec<u16>, AllocError> {
 fn members_of(
     alloc: Global,
     graph: &Graph,
-    reach: &Reach,
-    unpaid: &Reach,
+    reach: &Sources,
+    unpaid: &Sources,
 ) -> Result<Vec<Member>, AllocError> {
     let mut members = Vec::new(alloc);
     for place in 0..PLACES {

@@ -18,8 +18,9 @@ use crate::fault::{TimingCause, TimingFault, obstacle};
 use crate::forward::{Forward, ROM_SIZE, explore};
 use crate::grammar::{Bound, Line, MOST_LEFT};
 use crate::graph::{Graph, graph_of};
-use crate::least::{LEVEL_STEP, MOST_STRAIGHT, first_open, first_over, grow, leveled, raise_all};
+use crate::least::{LEVEL_STEP, first_open, first_over, grow, leveled, raise_all};
 use crate::pace::pace;
+use crate::ranks::{Ranks, ranks_of};
 use crate::said::draw;
 use crate::short::short_turn;
 use crate::turn::is_unpaid;
@@ -32,8 +33,8 @@ use vip_byte::MOST_TEXT;
 /// Each exit is by SEP of another register, or leads out of the ROM.
 ///
 /// The lines are of exactly the addresses to which ways lead that their facts let through. Each says the X that all ways there show; and a fact where one
-/// can be said: what D is, where D is asked for soon, or that the counter isn't 0. A loop has the least STEP that pays its turns, a line of no loop one
-/// that can't be one less, and each line the least BASE.
+/// can be said: what D is, where D is asked for soon, or that the counter isn't 0. A loop has one STEP, the least that pays its turns; a line of no loop has
+/// the least with its BASE; and each BASE is the least with these STEPs.
 ///
 /// Where an address is met whose opcode no line allows, where a loop isn't counted, or where a BASE passes 1,000,000, the answer is that; so it is where
 /// one fact a line doesn't suffice, with an address of a turn that no BASEs and no STEP close for these lines; or with the entry, where P is K or one of
@@ -157,44 +158,47 @@ fn settle(
     ensures fault { IfErr result (IsTimingFault forward.now.rom.now forward.now.bound) }
 {
     raise_all(forward.rom, &forward.bound, graph, &mut lines);
-    if are_settled(forward.rom, &forward.bound, lines.as_slice()) {
-        return certify_paced(alloc, forward, graph, members, lines);
+    let ranks = ranks_of(alloc, members)?;
+    if are_settled(forward.rom, &forward.bound, &ranks, lines.as_slice()) {
+        return certify_paced(alloc, forward, graph, members, &ranks, lines);
     }
     let mut level = leveled(alloc, lines.as_slice())?;
     match grow(forward.rom, &forward.bound, graph, &mut level) {
         Some(address) => Err(obstacle(forward.rom, TimingCause::Fact, address)),
-        None => certify_paced(alloc, forward, graph, members, level),
+        None => certify_paced(alloc, forward, graph, members, &ranks, level),
     }
 }
 
-// Whether lines are closed with STEPs that a certificate may say.
-fn are_settled(rom: &[u8], bound: &Bound, lines: &[Line]) -> bool
+// Whether lines are closed with low STEPs, one for each loop.
+fn are_settled(rom: &[u8], bound: &Bound, ranks: &Ranks, lines: &[Line]) -> bool
     requires { AreMade rom.now bound.now lines.now }
     ensures { result ≡ true → AreSettled rom.now bound.now lines.now }
 {
     first_open(rom, bound, lines).is_none()
-        && first_over(lines, MOST_STRAIGHT).is_none()
+        && first_over(lines).is_none()
         && have_low_steps(lines)
+        && ranks.are_ordered(rom, bound, lines)
 }
 
-// Whether each line has a STEP that a certificate may say.
+// Whether no STEP pays for more than a turn through all addresses of the ROM.
 fn have_low_steps(lines: &[Line]) -> bool
     ensures { result ≡ true → AreLowSteps lines.now }
 {
     for line in lines {
-        if u64::from(line.step) > MOST_LEFT {
+        if line.step > LEVEL_STEP {
             return false;
         }
     }
     true
 }
 
-// The text of a certificate with closed lines, whose STEPs are lowered until none is too great; or what stands against one.
+// The text of a certificate with closed lines, whose STEPs are lowered until each is the least; or what stands against one.
 fn certify_paced(
     alloc: Global,
     forward: &Forward,
     graph: &mut Graph,
     members: &[Member],
+    ranks: &Ranks,
     mut lines: Vec<Line>,
 ) -> Result<Vec<u8>, TimingFault>
     requires { AreSettled forward.now.rom.now forward.now.bound lines.items }
@@ -208,6 +212,7 @@ fn certify_paced(
         &forward.bound,
         graph,
         members,
+        ranks,
         &mut lines,
     )?;
     certify(alloc, forward, lines.as_slice())

@@ -1,4 +1,4 @@
-//! The way forward from an entry: which addresses it leads to, and what the line of each may say of X, D and the counter.
+//! The way forward from an entry: which addresses it leads to, what is known of X and D there, and which facts no line can show.
 //!
 //! That a certificate is right doesn't rest on what is found here. What is said where none is found does: so the contracts say of what is known that it is
 //! true of the source (`specs/Forward.antt`), and no more.

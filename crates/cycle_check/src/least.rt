@@ -8,7 +8,7 @@ ghost use Rattle.std.specs.Prelude.{◌≡◌, ◌-◌, ◌<◌, ◌≤◌, true
 ghost use Rattle.cycle_check.specs.declared.grammar.Line.{Line};
 ghost use Rattle.cycle_check.specs.Closed.{instruction_at, is_closed};
 ghost use Rattle.cycle_check.specs.Forward.{AreMade, IsOpenAt, level};
-ghost use Rattle.cycle_check.specs.Obstacles.{AreClosed, AreLowSteps, IsGrown, level_step, most_straight};
+ghost use Rattle.cycle_check.specs.Obstacles.{AreClosed, IsGrown, level_step, most_straight};
 ghost use Rattle.cycle_check.specs.Pace.{AreWithin, DifferInBases, IsOver};
 ghost use Rattle.cycle_check.specs.Reading.{AreRising};
 
@@ -148,51 +148,44 @@ pub fn leveled(alloc: Global, lines: &[Line]) -> Result<Vec<Line>, AllocError>
     Ok(made)
 }
 
-/// Raises BASEs of lines with that STEP until they are closed; or one of them passes what ways cost that come to no address twice, which its address tells.
+/// The same for lines with that STEP: where a BASE passes that, no BASEs close them.
 pub fn grow(rom: &[u8], bound: &Bound, graph: &mut Graph, lines: &mut Vec<Line>) -> Option<u16>
     requires made { AreMade rom.now bound.now lines.old.items }
     requires level { All (λ line. line.step ≡ level_step) lines.old.items }
     ensures made { AreMade rom.now bound.now lines.new.items }
-    ensures steps { AreLowSteps lines.new.items }
-    ensures grown { MatchOption result (AreClosed rom.now bound.now lines.new.items × AreWithin most_straight lines.new.items)
+    ensures level { All (λ line. line.step ≡ level_step) lines.new.items }
+    ensures grown { MatchOption result (AreClosed rom.now bound.now lines.new.items × AreWithin lines.new.items)
         (λ address. IsGrown rom.now bound.now lines.new.items address) }
 {
-    rise(rom, bound, graph, lines, MOST_STRAIGHT)
+    rise(rom, bound, graph, lines)
 }
 
-/// Raises BASEs of lines until they are closed; or one of them passes `most`, which its address tells.
-pub fn rise(
-    rom: &[u8],
-    bound: &Bound,
-    graph: &mut Graph,
-    lines: &mut Vec<Line>,
-    most: u64,
-) -> Option<u16>
-    requires made { AreMade rom.now bound.now lines.old.items }
-    requires most { most ≤ most_straight }
+/// Raises BASEs of lines until they are closed; or one of them passes what ways cost that come to no address twice, which its address tells.
+pub fn rise(rom: &[u8], bound: &Bound, graph: &mut Graph, lines: &mut Vec<Line>) -> Option<u16>
+    requires { AreMade rom.now bound.now lines.old.items }
     ensures made { AreMade rom.now bound.now lines.new.items }
     ensures differ { DifferInBases lines.old.items lines.new.items }
-    ensures risen { MatchOption result (AreClosed rom.now bound.now lines.new.items × AreWithin most lines.new.items) (IsOver most lines.new.items) }
+    ensures risen { MatchOption result (AreClosed rom.now bound.now lines.new.items × AreWithin lines.new.items) (IsOver lines.new.items) }
 {
     raise_all(rom, bound, graph, lines);
     while let Some((place, line)) = first_open(rom, bound, lines.as_slice()) {
-        if u64::from(line.base) > most {
+        if u64::from(line.base) > MOST_STRAIGHT {
             return Some(line.address);
         }
         let base = raised(rom, bound, graph, lines.as_slice(), &line);
         set_costs(graph, place_of(&line), base, line.step);
         lines[place] = Line { base, ..line };
     }
-    first_over(lines.as_slice(), most)
+    first_over(lines.as_slice())
 }
 
-/// The address of the first line whose BASE passes `most`.
-pub fn first_over(lines: &[Line], most: u64) -> Option<u16>
-    ensures { MatchOption result (AreWithin most lines.now) (IsOver most lines.now) }
+/// The address of the first line whose BASE passes that.
+pub fn first_over(lines: &[Line]) -> Option<u16>
+    ensures { MatchOption result (AreWithin lines.now) (IsOver lines.now) }
 {
     for place in 0..lines.len() {
         let line = lines[place];
-        if u64::from(line.base) > most {
+        if u64::from(line.base) > MOST_STRAIGHT {
             return Some(line.address);
         }
     }

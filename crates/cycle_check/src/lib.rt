@@ -33,6 +33,7 @@ mod known;
 pub mod laws;
 mod least;
 mod pace;
+mod ranks;
 mod reach;
 mod said;
 mod short;

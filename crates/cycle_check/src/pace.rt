@@ -1,91 +1,210 @@
-//! STEPs that are too great.
+//! STEPs that are the least.
 //!
-//! The STEP of a loop is the least where a turn of it costs more than a STEP of one less pays for; that of a line of no loop isn't too great where the line
-//! isn't closed with one less. Where a STEP is too great, the lines are closed with a less one too.
+//! The STEP of a loop is the least where a turn of it costs more than one less pays for, and then more than each lesser one does; that of a line of no loop is
+//! where the line isn't closed with one less. Where neither is shown the lines are closed with one less too, or they are with no BASEs, and so with no lesser
+//! STEP.
 
 ghost use Rattle.std.specs.Prelude.{◌≡◌, ◌-◌, ◌<◌, ◌≤◌, true, false, IfOk, OnOk, MatchOption, Some};
 ghost use Rattle.std.specs.List.{All, Any};
 ghost use Rattle.cycle_check.specs.declared.grammar.Line.{Line};
-ghost use Rattle.cycle_check.specs.Closed.{instruction_at, is_closed, line_at};
-ghost use Rattle.cycle_check.specs.Obstacles.{AreJoined, ArePaced, IsLeastOfLoop, IsPaced, Leads, most_straight};
-ghost use Rattle.cycle_check.specs.Pace.{AreLess, AreSettled, StayOpen, all_lowered, is_among, lowered};
+ghost use Rattle.cycle_check.specs.Closed.{line_at};
+ghost use Rattle.cycle_check.specs.Obstacles.{AreJoined, ArePaced, IsLeastAlone, IsLeastOfLoop, IsPaced, Leads};
+ghost use Rattle.cycle_check.specs.Pace.{AreAlone, AreLeastAt, AreLess, AreSettled, IsWhole, StayOpen, all_lowered, is_among, lowered};
 ghost use Rattle.cycle_check.specs.Reach.{IsReachOf};
 ghost use Rattle.cycle_check.specs.Reading.{AreRising};
 
 use crate::closed::{instruction_at, is_closed, line_at};
 use crate::components::Member;
 use crate::cost::first_count;
-use crate::grammar::{Bound, Line, MOST_LEFT};
+use crate::grammar::{Bound, Line};
 use crate::graph::Graph;
-use crate::least::{MOST_STRAIGHT, rise};
-use crate::reach::{Reach, reach_of};
+use crate::least::rise;
+use crate::ranks::Ranks;
+use crate::reach::{Marks, leading_to, no_marks, reach_of};
 use crate::short::short_turn;
 use crate::turn::is_short;
 use std::alloc::{AllocError, Global};
 
-/// Lowers STEPs of closed lines until none is too great.
+/// Lowers STEPs of closed lines until each is the least.
 pub fn pace(
     alloc: Global,
     rom: &[u8],
     bound: &Bound,
     graph: &mut Graph,
     members: &[Member],
+    ranks: &Ranks,
     lines: &mut Vec<Line>,
 ) -> Result<(), AllocError>
     requires { AreSettled rom.now bound.now lines.old.items }
     ensures settled { OnOk result (AreSettled rom.now bound.now lines.new.items) }
     ensures paced { OnOk result (ArePaced rom.now bound.now lines.new.items) }
 {
-    while let Some(less) = first_less(alloc, rom, bound, graph, members, lines.as_slice())? {
+    while let Some(less) = first_less(alloc, rom, bound, graph, members, ranks, lines.as_slice())? {
         *lines = less;
     }
     Ok(())
 }
 
-// Closed lines with less STEPs, where the STEP of a line is too great.
+// Closed lines with less STEPs, where the STEP of a line isn't the least.
 fn first_less(
     alloc: Global,
     rom: &[u8],
     bound: &Bound,
     graph: &mut Graph,
     members: &[Member],
+    ranks: &Ranks,
     lines: &[Line],
 ) -> Result<Option<Vec<Line>>, AllocError>
     requires { AreSettled rom.now bound.now lines.now }
     ensures { IfOk result (λ found. MatchOption found (ArePaced rom.now bound.now lines.now) (λ less. AreLess rom.now bound.now lines.now less.items)) }
 {
-    let mut turn = Vec::new(alloc);
+    let least = least_of(alloc, rom, bound, graph, members, lines)?;
+    let alone = alone_of(alloc, rom, bound, ranks, lines)?;
     for place in 0..lines.len() {
         let line = lines[place];
-        if let Some(less) = less_at(alloc, rom, bound, graph, members, lines, &line, &mut turn)? {
+        if let Some(less) = less_at(alloc, rom, bound, graph, &least, &alone, lines, &line)? {
             return Ok(Some(less));
         }
     }
     Ok(None)
 }
 
-// The same for one line. The turn is that which was found last: it mostly tells for the next line too.
+// Marks lines that are of no loop, as their numbers show.
+fn alone_of(
+    alloc: Global,
+    rom: &[u8],
+    bound: &Bound,
+    ranks: &Ranks,
+    lines: &[Line],
+) -> Result<Marks, AllocError>
+    requires { AreRising lines.now }
+    ensures { IfOk result (AreAlone rom.now bound.now lines.now) }
+{
+    let mut alone = no_marks(alloc)?;
+    if ranks.are_ordered(rom, bound, lines) {
+        for line in lines {
+            if ranks.falls(rom, bound, lines, line.address) {
+                alone.mark(line.address);
+            }
+        }
+    }
+    Ok(alone)
+}
+
+// Marks lines of loops of whose STEP a turn shows that it is the least.
+fn least_of(
+    alloc: Global,
+    rom: &[u8],
+    bound: &Bound,
+    graph: &Graph,
+    members: &[Member],
+    lines: &[Line],
+) -> Result<Marks, AllocError>
+    requires { AreSettled rom.now bound.now lines.now }
+    ensures { IfOk result (AreLeastAt rom.now bound.now lines.now) }
+{
+    let mut least = no_marks(alloc)?;
+    let mut others = members;
+    for _ in 0..members.len() {
+        let (component, behind) = others.split_at(first_count(others));
+        let turn = turn_in(alloc, graph, component, lines)?;
+        mark_loop(
+            alloc,
+            rom,
+            bound,
+            lines,
+            component,
+            turn.as_slice(),
+            &mut least,
+        )?;
+        others = behind;
+    }
+    Ok(least)
+}
+
+// A turn of a component that one less than its STEP doesn't pay for; none where it is no loop, or has no STEP.
+fn turn_in(
+    alloc: Global,
+    graph: &Graph,
+    component: &[Member],
+    lines: &[Line],
+) -> Result<Vec<u16>, AllocError>
+    requires { AreRising lines.now }
+{
+    match component {
+        [first, ..] if first.is_loop => match line_at(lines, 0x8000 + u32::from(first.place)) {
+            Some(line) if line.step > 0 => short_turn(alloc, graph, component, line.step - 1),
+            _ => Ok(Vec::new(alloc)),
+        },
+        _ => Ok(Vec::new(alloc)),
+    }
+}
+
+// Marks the lines of a turn's loop, where one less than their STEP doesn't pay for the turn. Where the turn has all lines of its component none is looked for.
+fn mark_loop(
+    alloc: Global,
+    rom: &[u8],
+    bound: &Bound,
+    lines: &[Line],
+    component: &[Member],
+    turn: &[u16],
+    least: &mut Marks,
+) -> Result<(), AllocError>
+    requires settled { AreSettled rom.now bound.now lines.now }
+    requires least { AreLeastAt rom.now bound.now lines.now least.old }
+    ensures { OnOk result (AreLeastAt rom.now bound.now lines.now least.new) }
+{
+    let [first, ..] = turn else {
+        return Ok(());
+    };
+    let Some(line) = line_at(lines, u32::from(*first)) else {
+        return Ok(());
+    };
+    if line.step == 0 || !is_short(rom, bound, lines, turn, line.step - 1) {
+        return Ok(());
+    }
+    if turn.len() >= component.len() {
+        for address in turn {
+            least.mark(*address);
+        }
+        return Ok(());
+    }
+    let behind = reach_of(alloc, rom, bound, lines, *first)?;
+    let before = leading_to(alloc, rom, bound, lines, *first)?;
+    for other in lines {
+        if behind.has(other.address) && before.has(other.address) {
+            least.mark(other.address);
+        }
+    }
+    Ok(())
+}
+
+// Closed lines with less STEPs, where that of a line isn't the least.
 fn less_at(
     alloc: Global,
     rom: &[u8],
     bound: &Bound,
     graph: &mut Graph,
-    members: &[Member],
+    least: &Marks,
+    alone: &Marks,
     lines: &[Line],
     line: &Line,
-    turn: &mut Vec<u16>,
 ) -> Result<Option<Vec<Line>>, AllocError>
     requires settled { AreSettled rom.now bound.now lines.now }
+    requires least { AreLeastAt rom.now bound.now lines.now least.now }
+    requires alone { AreAlone rom.now bound.now lines.now alone.now }
     requires there { line_at lines.now line.now.address ≡ Some line.now }
-    ensures { IfOk result (λ found. MatchOption found (0 < line.now.step → IsPaced rom.now bound.now lines.now line.now)
-        (λ less. AreLess rom.now bound.now lines.now less.items)) }
+    ensures { IfOk result (λ found. MatchOption found (IsPaced rom.now bound.now lines.now line.now) (λ less. AreLess rom.now bound.now lines.now less.items)) }
 {
-    if line.step == 0 {
+    if line.step == 0 || least.has(line.address) {
         return Ok(None);
     }
+    if alone.has(line.address) {
+        return less_alone(alloc, rom, bound, graph, lines, line);
+    }
     let reach = reach_of(alloc, rom, bound, lines, line.address)?;
-    if reach.leads_to(line.address) {
-        less_of_loop(alloc, rom, bound, graph, members, lines, line, &reach, turn)
+    if reach.has(line.address) {
+        less_of_loop(alloc, rom, bound, graph, lines, line, &reach)
     } else {
         less_alone(alloc, rom, bound, graph, lines, line)
     }
@@ -97,93 +216,19 @@ fn less_of_loop(
     rom: &[u8],
     bound: &Bound,
     graph: &mut Graph,
-    members: &[Member],
     lines: &[Line],
     line: &Line,
-    reach: &Reach,
-    turn: &mut Vec<u16>,
+    reach: &Marks,
 ) -> Result<Option<Vec<Line>>, AllocError>
     requires settled { AreSettled rom.now bound.now lines.now }
     requires there { line_at lines.now line.now.address ≡ Some line.now }
     requires some { 0 < line.now.step }
     requires reach { IsReachOf rom.now bound.now lines.now line.now.address reach.now }
     requires round { Leads rom.now bound.now lines.now line.now.address line.now.address }
-    ensures { IfOk result (λ found. MatchOption found (IsLeastOfLoop rom.now bound.now lines.now line.now.address) (λ less. AreLess rom.now bound.now lines.now less.items)) }
+    ensures { IfOk result (λ found. MatchOption found (IsLeastOfLoop rom.now bound.now lines.now line.now) (λ less. AreLess rom.now bound.now lines.now less.items)) }
 {
-    if is_least(alloc, rom, bound, lines, line, reach, turn.as_slice())? {
-        return Ok(None);
-    }
-    let component = component_of(members, line.address);
-    *turn = short_turn(alloc, graph, component, line.step.saturating_sub(1))?;
-    if is_least(alloc, rom, bound, lines, line, reach, turn.as_slice())? {
-        return Ok(None);
-    }
     let joined = joined_with(alloc, rom, bound, lines, line.address, reach)?;
-    lowered_at(
-        alloc,
-        rom,
-        bound,
-        graph,
-        lines,
-        joined.as_slice(),
-        MOST_LEFT,
-    )
-}
-
-// The members of the component of an address.
-fn component_of(members: &[Member], address: u16) -> &[Member] {
-    let mut others = members;
-    for _ in 0..members.len() {
-        let (component, behind) = others.split_at(first_count(others));
-        for member in component {
-            if 0x8000 + u32::from(member.place) == u32::from(address) {
-                return component;
-            }
-        }
-        others = behind;
-    }
-    others
-}
-
-// Whether a turn shows that the STEP of a line's loop is the least: it is one of that loop, with this STEP, and one less doesn't pay for it.
-fn is_least(
-    alloc: Global,
-    rom: &[u8],
-    bound: &Bound,
-    lines: &[Line],
-    line: &Line,
-    reach: &Reach,
-    turn: &[u16],
-) -> Result<bool, AllocError>
-    requires rising { AreRising lines.now }
-    requires reach { IsReachOf rom.now bound.now lines.now line.now.address reach.now }
-    ensures { IfOk result (λ least. least ≡ true → IsLeastOfLoop rom.now bound.now lines.now line.now.address) }
-{
-    let [first, ..] = turn else {
-        return Ok(false);
-    };
-    if !reach.leads_to(*first)
-        || !have_step(lines, turn, line.step)
-        || !is_short(rom, bound, lines, turn, line.step.saturating_sub(1))
-    {
-        return Ok(false);
-    }
-    let back = reach_of(alloc, rom, bound, lines, *first)?;
-    Ok(back.leads_to(line.address))
-}
-
-// Whether the line of each address has this STEP.
-fn have_step(lines: &[Line], addresses: &[u16], step: u32) -> bool
-    requires { AreRising lines.now }
-    ensures { result ≡ true → All (λ address. (line : Line) × (line_at lines.now address ≡ Some line) × (line.step ≡ step)) addresses.now }
-{
-    for address in addresses {
-        match line_at(lines, u32::from(*address)) {
-            Some(line) if line.step == step => {}
-            _ => return false,
-        }
-    }
-    true
+    lowered_at(alloc, rom, bound, graph, lines, joined.as_slice())
 }
 
 // The addresses of the lines that are joined with that of an address.
@@ -193,7 +238,7 @@ fn joined_with(
     bound: &Bound,
     lines: &[Line],
     address: u16,
-    reach: &Reach,
+    reach: &Marks,
 ) -> Result<Vec<u16>, AllocError>
     requires rising { AreRising lines.now }
     requires reach { IsReachOf rom.now bound.now lines.now address reach.now }
@@ -216,7 +261,7 @@ fn leads_back(
     bound: &Bound,
     lines: &[Line],
     address: u16,
-    reach: &Reach,
+    reach: &Marks,
     other: u16,
 ) -> Result<bool, AllocError>
     requires rising { AreRising lines.now }
@@ -224,11 +269,11 @@ fn leads_back(
     ensures joined { IfOk result (λ back. back ≡ true → AreJoined rom.now bound.now lines.now address other) }
     ensures apart { IfOk result (λ back. back ≡ false → AreJoined rom.now bound.now lines.now address other → ⊥) }
 {
-    if !reach.leads_to(other) {
+    if !reach.has(other) {
         return Ok(false);
     }
     let back = reach_of(alloc, rom, bound, lines, other)?;
-    Ok(back.leads_to(address))
+    Ok(back.has(address))
 }
 
 // The same for a line that doesn't lead back to itself.
@@ -243,9 +288,8 @@ fn less_alone(
     requires settled { AreSettled rom.now bound.now lines.now }
     requires there { line_at lines.now line.now.address ≡ Some line.now }
     requires some { 0 < line.now.step }
-    ensures { IfOk result (λ found. MatchOption found
-        (is_closed bound.now lines.now (record line.now { step = line.now.step - 1 }) (instruction_at rom.now line.now.address) ≡ false)
-        (λ less. AreLess rom.now bound.now lines.now less.items)) }
+    requires alone { Leads rom.now bound.now lines.now line.now.address line.now.address → ⊥ }
+    ensures { IfOk result (λ found. MatchOption found (IsLeastAlone rom.now bound.now lines.now line.now) (λ less. AreLess rom.now bound.now lines.now less.items)) }
 {
     let less = Line {
         step: line.step.saturating_sub(1),
@@ -255,18 +299,10 @@ fn less_alone(
         return Ok(None);
     }
     // these are closed with the BASEs that the lines have, so there are some
-    lowered_at(
-        alloc,
-        rom,
-        bound,
-        graph,
-        lines,
-        &[line.address],
-        MOST_STRAIGHT,
-    )
+    lowered_at(alloc, rom, bound, graph, lines, &[line.address])
 }
 
-// Closed lines with a STEP of one less at some addresses; or none with BASEs up to `most`.
+// Closed lines with a STEP of one less at the lines of whole loops; or no BASEs close those.
 fn lowered_at(
     alloc: Global,
     rom: &[u8],
@@ -274,16 +310,15 @@ fn lowered_at(
     graph: &mut Graph,
     lines: &[Line],
     addresses: &[u16],
-    most: u64,
 ) -> Result<Option<Vec<Line>>, AllocError>
     requires settled { AreSettled rom.now bound.now lines.now }
-    requires most { most ≤ most_straight }
+    requires whole { IsWhole rom.now bound.now lines.now addresses.now }
     requires some { Any (λ line. (is_among addresses.now line.address ≡ true) × (0 < line.step)) lines.now }
-    ensures { IfOk result (λ found. MatchOption found (StayOpen rom.now bound.now most (all_lowered addresses.now lines.now))
+    ensures { IfOk result (λ found. MatchOption found (StayOpen rom.now bound.now (all_lowered addresses.now lines.now))
         (λ less. AreLess rom.now bound.now lines.now less.items)) }
 {
     let mut less = lowered(alloc, lines, addresses)?;
-    match rise(rom, bound, graph, &mut less, most) {
+    match rise(rom, bound, graph, &mut less) {
         None => Ok(Some(less)),
         Some(_) => Ok(None),
     }

@@ -1,8 +1,8 @@
-//! To which lines the ways of a line lead.
+//! To which lines the ways of a line lead, and from which ones they lead to it.
 
-ghost use Rattle.std.specs.Prelude.{◌≡◌, ℕ, ◌+◌, ◌<◌, IfOk, MatchOption};
+ghost use Rattle.std.specs.Prelude.{◌≡◌, ℕ, ◌+◌, ◌<◌, ◌⊎◌, true, false, IfOk, MatchOption, Some};
 ghost use Rattle.cycle_check.specs.Obstacles.{LeadsBy};
-ghost use Rattle.cycle_check.specs.Reach.{HasPlaces, IsEndOf, IsMarked, IsReachOf, IsRound, is_led_to};
+ghost use Rattle.cycle_check.specs.Reach.{AreSources, HasPlaces, IsEndOf, IsMarked, IsNext, IsReachOf, IsRound, is_marked};
 ghost use Rattle.cycle_check.specs.Reading.{AreRising};
 
 use crate::closed::{instruction_at, lets_through, line_at, ways_from};
@@ -11,30 +11,97 @@ use crate::grammar::{Bound, Fact, Line};
 use crate::table::Way;
 use std::alloc::{AllocError, Global};
 
-/// The addresses of the ROM to whose lines a line leads.
+/// Addresses of the ROM, each of which is marked or not.
 #[derive(Drop)]
-pub struct Reach {
-    // whether it leads there, by place
-    led: Vec<bool>,
+pub struct Marks {
+    // by place
+    marked: Vec<bool>,
 }
 
-/// Finds the addresses of lines to which the ways of lines lead from an address on, by one way or more.
+/// The addresses to whose lines a line leads by one way that its fact lets through: two at most.
+#[derive(Clone, Copy)]
+pub struct Next {
+    pub first: Option<u16>,
+    pub second: Option<u16>,
+}
+
+/// The ROM without marks.
+pub fn no_marks(alloc: Global) -> Result<Marks, AllocError>
+    ensures places { IfOk result HasPlaces }
+    ensures none { IfOk result (λ marks. (address : ℕ) → is_marked marks address ≡ false) }
+{
+    Ok(Marks {
+        marked: vec![in alloc; false; ROM_SIZE]?,
+    })
+}
+
+/// Finds the addresses of lines to which the ways of lines lead from an address on, by one way or more: those are marked, and no other ones.
 pub fn reach_of(
     alloc: Global,
     rom: &[u8],
     bound: &Bound,
     lines: &[Line],
     start: u16,
-) -> Result<Reach, AllocError>
+) -> Result<Marks, AllocError>
     requires { AreRising lines.now }
     ensures { IfOk result (IsReachOf rom.now bound.now lines.now start) }
 {
-    let mut reach = Reach {
-        led: vec![in alloc; false; ROM_SIZE]?,
-    };
+    let mut reach = no_marks(alloc)?;
     reach.mark_behind(rom, bound, lines, start);
     while reach.mark_round(rom, bound, lines) {}
     Ok(reach)
+}
+
+/// Finds addresses from whose lines the ways of lines lead to that of an address. That no other one leads there is not promised.
+pub fn leading_to(
+    alloc: Global,
+    rom: &[u8],
+    bound: &Bound,
+    lines: &[Line],
+    end: u16,
+) -> Result<Marks, AllocError>
+    requires { AreRising lines.now }
+    ensures { IfOk result (AreSources rom.now bound.now lines.now end) }
+{
+    let mut sources = no_marks(alloc)?;
+    for _ in 0..ROM_SIZE {
+        if !sources.mark_before(rom, bound, lines, end) {
+            break;
+        }
+    }
+    Ok(sources)
+}
+
+/// The addresses to which the line of an address leads by one way.
+pub fn next_of(rom: &[u8], bound: &Bound, lines: &[Line], address: u16) -> Next
+    requires { AreRising lines.now }
+    ensures { IsNext rom.now bound.now lines.now address result }
+{
+    let Some(line) = line_at(lines, u32::from(address)) else {
+        return Next {
+            first: None,
+            second: None,
+        };
+    };
+    let ways = ways_from(bound, address, &instruction_at(rom, address));
+    Next {
+        first: end_address(lines, line.fact, ways.first),
+        second: match ways.second {
+            Some(second) => end_address(lines, line.fact, second),
+            None => None,
+        },
+    }
+}
+
+// The address of the line to which a way leads, where a fact lets the way through.
+fn end_address(lines: &[Line], fact: Fact, way: Way) -> Option<u16>
+    requires { AreRising lines.now }
+    ensures { MatchOption result ((to : ℕ) → IsEndOf lines.now fact way to → ⊥) (IsEndOf lines.now fact way) }
+{
+    match end_place(lines, fact, way) {
+        Some(place) => Some(0x8000 + place as u16),
+        None => None,
+    }
 }
 
 // The place of the line to which a way leads, where a fact lets the way through.
@@ -52,16 +119,57 @@ fn end_place(lines: &[Line], fact: Fact, way: Way) -> Option<usize>
     place_of(to)
 }
 
-impl Reach {
-    /// Whether the line leads to the line of an address.
-    pub fn leads_to(&self, address: u16) -> bool
-        ensures { result ≡ is_led_to self.now address }
+impl Marks {
+    /// Whether an address is marked.
+    pub fn has(&self, address: u16) -> bool
+        ensures { result ≡ is_marked self.now address }
     {
         let Some(place) = place_of(u32::from(address)) else {
             return false;
         };
-        match self.led.get(place) {
-            Some(led) => *led,
+        match self.marked.get(place) {
+            Some(marked) => *marked,
+            None => false,
+        }
+    }
+
+    /// Marks an address, where it is one of the ROM.
+    pub fn mark(&mut self, address: u16)
+        ensures { (to : ℕ) → is_marked self.new to ≡ true → (is_marked self.old to ≡ true) ⊎ (to ≡ address) }
+    {
+        if let Some(place) = place_of(u32::from(address))
+            && place < self.marked.len()
+        {
+            self.marked[place] = true;
+        }
+    }
+
+    // Marks each line that leads by one way to an address or to one that is marked, the last line first, since most ways lead on. Whether one is new.
+    fn mark_before(&mut self, rom: &[u8], bound: &Bound, lines: &[Line], end: u16) -> bool
+        requires rising { AreRising lines.now }
+        requires sources { AreSources rom.now bound.now lines.now end self.old }
+        ensures { AreSources rom.now bound.now lines.now end self.new }
+    {
+        let mut more = false;
+        for place in (0..lines.len()).rev() {
+            let address = lines[place].address;
+            let next = next_of(rom, bound, lines, address);
+            if !self.has(address)
+                && (self.is_source(next.first, end) || self.is_source(next.second, end))
+            {
+                self.mark(address);
+                more = true;
+            }
+        }
+        more
+    }
+
+    // Whether an address is the end, or marked.
+    fn is_source(&self, address: Option<u16>, end: u16) -> bool
+        ensures { result ≡ true → (to : ℕ) × (address ≡ Some to) × ((to ≡ end) ⊎ (is_marked self.now to ≡ true)) }
+    {
+        match address {
+            Some(to) => to == end || self.has(to),
             None => false,
         }
     }
@@ -74,7 +182,7 @@ impl Reach {
     {
         let mut more = false;
         for address in 0x8000..0x8800u16 {
-            if self.leads_to(address) && self.mark_behind(rom, bound, lines, address) {
+            if self.has(address) && self.mark_behind(rom, bound, lines, address) {
                 more = true;
             }
         }
@@ -108,10 +216,10 @@ impl Reach {
         let Some(place) = end_place(lines, fact, way) else {
             return false;
         };
-        if self.led[place] {
+        if self.marked[place] {
             return false;
         }
-        self.led[place] = true;
+        self.marked[place] = true;
         true
     }
 }

@@ -1,6 +1,6 @@
 use Rattle.std.proofs.Common.{refl}
 use Rattle.cycle_check.specs.Found.Against.{Grows}
-use Rattle.cycle_check.proofs.Leveled.{flat_made, level_steps}
+use Rattle.cycle_check.proofs.Leveled.{flat_made, level_settled, level_steps}
 use Rattle.cycle_check.specs.Obstacles.{level_step}
 use Rattle.cycle_check.proofs.find.settle.Goals as goal
 
@@ -23,3 +23,8 @@ returns-in-Some-clause-fault c =
       },
       refl,
     )
+
+pub certify_paced-requires-in-None : goal.certify_paced-requires-in-None
+certify_paced-requires-in-None c =
+    level_settled c.args.forward.now.rom.now c.args.forward.now.bound c.grow.new.lines.items c.grow.ensures.made c.in-None.ensures.grown.0
+    c.in-None.ensures.grown.1 c.grow.ensures.level

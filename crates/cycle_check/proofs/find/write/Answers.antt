@@ -6,13 +6,14 @@ use Rattle.cycle_check.specs.declared.grammar.Line.{Line}
 use Rattle.cycle_check.specs.Closed.{left}
 use Rattle.cycle_check.specs.Exits.{exits}
 use Rattle.cycle_check.specs.Found.{IsFoundFrom, timing_text}
+use Rattle.cycle_check.specs.Obstacles.{level_step}
 use Rattle.cycle_check.proofs.Certified.{found_from}
 use Rattle.cycle_check.proofs.Drawing.{found_all}
 use Rattle.cycle_check.proofs.find.write.Goals as goal
 
 pub most_at-requires-clause-step : goal.most_at-requires-clause-step
 most_at-requires-clause-step c =
-    found_all (λ (l : Line). l.step ≤ 1000000) c.args.lines.now _ c.args.first.now c.requires.first c.requires.steps
+    omega (arith, found_all (λ (l : Line). l.step ≤ level_step) c.args.lines.now _ c.args.first.now c.requires.first c.requires.steps)
 
 pub returns-clause-found : goal.returns-clause-found
 returns-clause-found c =

@@ -20,7 +20,7 @@ raised-base-requires-clause-unclosed c =
 pub loop-place-smaller : goal.loop-place-smaller
 loop-place-smaller c =
     raised_smaller c.args.rom.now c.args.bound.now c.loop-place.lines.items c.in-Some.place c.raised-base.result c.in-Some.line
-    (rw c.as_slice.ensures.value at c.in-Some.ensures) c.args.most c.requires.most (omega (arith, c.if-from-most.false, c.from.ensures)) c.raised-base.ensures.more
+    (rw c.as_slice.ensures.value at c.in-Some.ensures) (omega (arith, c.if-from-gt-MOST_STRAIGHT.false, c.from.ensures)) c.raised-base.ensures.more
 
 pub loop-place-preserved : goal.loop-place-preserved
 loop-place-preserved c =

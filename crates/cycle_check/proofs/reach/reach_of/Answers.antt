@@ -1,4 +1,4 @@
-use Rattle.std.proofs.Common.{rules, subst}
+use Rattle.std.proofs.Common.{subst}
 use Rattle.cycle_check.specs.Reach.{IsRound}
 use Rattle.cycle_check.proofs.Reaching.{search_ends, search_first, search_on}
 use Rattle.cycle_check.proofs.reach.reach_of.Goals as goal
@@ -6,7 +6,7 @@ use Rattle.cycle_check.proofs.reach.reach_of.Goals as goal
 pub loop-init : goal.loop-init
 loop-init c =
     search_first c.args.rom.now c.args.bound.now c.args.lines.now c.args.start c.mark_behind.result _ c.mark_behind.new.self
-    (c.in_ok-vec.ensures.items_if_clones_equal (λ led same. search rules)) c.mark_behind.ensures
+    c.in_ok-reach.ensures.none c.mark_behind.ensures
 
 pub loop-preserved : goal.loop-preserved
 loop-preserved c =

@@ -1,7 +1,7 @@
 use Rattle.std.proofs.Common.{◌+◌, refl, sym, ◌∙◌}
 use Rattle.cycle_check.specs.Reach.{IsEndOf}
 use Rattle.cycle_check.proofs.Reaching.{end_one, marked_all, marked_one, marked_there}
-use Rattle.cycle_check.proofs.reach.Reach.mark_end.Goals as goal
+use Rattle.cycle_check.proofs.reach.Marks.mark_end.Goals as goal
 
 pub returns-in_default : goal.returns-in_default
 returns-in_default c =

@@ -1,7 +1,7 @@
 use Rattle.std.proofs.Common.{refl, sym, ◌∙◌}
 use Rattle.cycle_check.specs.Obstacles.{LeadsBy}
 use Rattle.cycle_check.proofs.Reaching.{marked_all, marked_first, marked_second, no_way}
-use Rattle.cycle_check.proofs.reach.Reach.mark_behind.Goals as goal
+use Rattle.cycle_check.proofs.reach.Marks.mark_behind.Goals as goal
 
 pub returns-in_default : goal.returns-in_default
 returns-in_default c =
