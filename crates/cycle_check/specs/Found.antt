@@ -83,7 +83,7 @@ pub record IsCertificate (rom : List ℕ) (entry p k : ℕ) (text : List ℕ) : 
   pub leaves : All (λ exit. leaves_rom exit.to) (exits rom bound lines)
   pub limit : HasLimit bound lines
 
--- One is found: it is the text of lines of exactly the addresses that are reached, each with the least BASE and a STEP that isn't too great.
+-- One is found: it is the text of lines of exactly the addresses that are reached, each with the least BASE and the least STEP of its loop.
 pub record IsFoundFrom (rom : List ℕ) (start : Bound) (text : List ℕ) : Type 0 where
   pub limit : ℕ
   pub lines : List Line

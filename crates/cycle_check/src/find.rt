@@ -36,9 +36,9 @@ use vip_byte::MOST_TEXT;
 /// can be said: what D is, where D is asked for soon, or that the counter isn't 0. A loop has one STEP, the least that pays its turns; a line of no loop has
 /// the least with its BASE; and each BASE is the least with these STEPs.
 ///
-/// Where an address is met whose opcode no line allows, where a loop isn't counted, or where a BASE passes 1,000,000, the answer is that; so it is where
-/// one fact a line doesn't suffice, with an address of a turn that no BASEs and no STEP close for these lines; or with the entry, where P is K or one of
-/// them is no register's number; or memory was wanting. For which routines one is found is not promised.
+/// Where none is found the answer is an address whose opcode no line allows, or of a loop that isn't counted, or whose BASE passes 1,000,000; or where one
+/// fact a line doesn't suffice: the address of a turn that no BASEs and no STEP close for these lines, or of an opcode that isn't allowed at its line, or the
+/// entry, where P is K or one of them is no register's number. Memory may be wanting. For which routines one is found is not promised.
 pub fn find_timing(
     alloc: Global,
     rom: &[u8; 2048],

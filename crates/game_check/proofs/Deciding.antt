@@ -95,6 +95,7 @@ module _ (e : Edition) (game : List ℕ) where
       found_text text is words = record {
         family = family;
         least = settled.least;
+        around = λ other whole k c within. settled.least.least k c within (claims_of other) (accepted_closed e game other whole);
         is = is;
         accepted =
             subst (IsAccepted e game) (sym is)

@@ -14,6 +14,7 @@ use Rattle.game_check.specs.declared.fault.FindFault.TheVariants.{NotFound, NoMe
 use Rattle.game_check.specs.declared.fault.Obstacle.TheVariants.{Open, TooLong}
 use Rattle.game_check.specs.declared.fault.OpenClaim.{OpenClaim}
 use Rattle.game_check.specs.Closed.{cause_in, game_byte, high_after, instr_in, is_allowed, low_after, next_points, point}
+use Rattle.game_check.specs.Grammar.{claims_of}
 use Rattle.game_check.specs.Order.{IsAscending}
 use Rattle.game_check.specs.Proof.{IsAccepted}
 
@@ -90,10 +91,11 @@ most_bytes = 1_048_576
 
 -- ---- what a search finds
 
--- A certificate is found: its text is exactly the lines of the least family.
+-- A certificate is found: its text is exactly the lines of the least family. So each other one that is accepted has a line around each of its lines.
 pub record IsFound (e : Edition) (game text : List ℕ) : Type 0 where
   pub family : List Claim
   pub least : IsLeast e game family
+  pub around : (other : List ℕ) → IsAccepted e game other → All (IsCovered (claims_of other)) family
   pub is : text ≡ family_text family
   pub accepted : IsAccepted e game text
   pub fits : length text ≤ most_bytes

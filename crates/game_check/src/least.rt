@@ -1,8 +1,8 @@
 //! The least family of claims that is closed under the steps of a game.
 //!
 //! It grows claim by claim to what is left at the next points, and each closed family has a claim around each of its claims all along. So where nothing
-//! grows any more, it is the least one that is closed. A round over all claims tells that; before, sweeps follow those that grew. A cycle on which I is
-//! raised and nowhere begins anew raises it without end: so where HI was raised by way of itself, it is above all addresses.
+//! grows any more, it is the least one that is closed. A round over all claims tells that; before, those that grew are followed while there are any. A cycle on
+//! which I is raised and nowhere begins anew raises it without end: so where HI was raised by way of itself, it is above all addresses.
 
 ghost use Rattle.std.specs.Prelude.{◌≡◌, ◌<◌, ◌≤◌, ℕ, true, false, length, nat_le, slice_get, slice_index_or, IfOk, IfErr, IfSome, OnOk, MatchOption, Some};
 ghost use Rattle.std.specs.List.{sum_by};
@@ -27,7 +27,7 @@ pub const MOST_LINES: usize = MOST_TEXT / 15;
 /// What is noted of a claim. Only the time hangs on it.
 #[derive(Clone, Copy)]
 struct Mark {
-    // it grew behind the last time that it was followed
+    // it grew behind the last time that it was followed, and has a place in the ring
     waits: bool,
     // the place of the claim that raised its HI last
     raised_by: Option<usize>,
@@ -41,9 +41,13 @@ pub struct Search<'a> {
     claims: Vec<Claim>,
     // by the fingerprints of their points
     places: HashMap<u64, usize>,
-    // in which order they are followed, and what is noted of each
-    order: Vec<usize>,
     marks: Vec<Mark>,
+    // a ring of the places of those that wait: so many from its first one on, behind its end from its start on
+    ring: Vec<usize>,
+    first: usize,
+    waiting: usize,
+    // a HI was raised behind the last look for cycles
+    rose: bool,
 }
 
 /// The least closed family of a game, or none where its lines have more bytes than a certificate may.
@@ -56,7 +60,10 @@ pub fn least_family(
         (λ found. MatchOption found (IsTooLong edition game.now) (λ family. IsSettled edition game.now family.items)) }
 {
     let mut search = Search::start(alloc, edition, game)?;
-    search.settle(alloc)?;
+    // which lines there are doesn't hang on ranges
+    if fits(search.claims.as_slice()) {
+        search.settle(alloc)?;
+    }
     while fits(search.claims.as_slice()) {
         if !search.round()? {
             return Ok(Some(search.claims));
@@ -75,10 +82,14 @@ impl<'a> Search<'a> {
         for place in 0..claims.len() {
             places.insert(claims[place].point.fingerprint(), place)?;
         }
-        let mut order = Vec::new(alloc);
+        let mut ring = vec![in alloc; 0usize; claims.len()]?;
+        let mut waiting = 0usize;
         for print in prints {
-            if let Some(place) = places.get(&print) {
-                order.push(*place)?;
+            if let Some(place) = places.get(&print)
+                && waiting < ring.len()
+            {
+                ring[waiting] = *place;
+                waiting += 1;
             }
         }
         let mark = Mark {
@@ -91,8 +102,11 @@ impl<'a> Search<'a> {
             game,
             claims,
             places,
-            order,
             marks,
+            ring,
+            first: 0,
+            waiting,
+            rose: false,
         })
     }
 }
@@ -104,46 +118,70 @@ impl Search<'_> {
         requires { HasMet self.old }
         ensures { OnOk result (IsKept self.old self.new) }
     {
-        for _ in 0..self.order.len().saturating_mul(2).saturating_add(4) {
+        for _ in 0..self.ring.len().saturating_mul(2).saturating_add(4) {
             if !self.sweep()? {
                 break;
             }
-            self.lift_cycles(alloc)?;
+            if self.rose {
+                self.rose = false;
+                self.lift_cycles(alloc)?;
+            }
         }
         Ok(())
     }
 
-    // Follows each claim that waits when it is its turn. Whether one did.
+    // Follows claims that wait, the first one first: as many as there are claims, or until none waits. Whether one did.
     fn sweep(&mut self) -> Result<bool, AllocError>
         requires { HasMet self.old }
         ensures { OnOk result (IsKept self.old self.new) }
     {
         let mut some = false;
-        for turn in 0..self.order.len() {
-            if let Some(place) = self.take_waiting(turn) {
-                self.follow(place)?;
-                some = true;
-            }
+        for _ in 0..self.ring.len() {
+            let Some(place) = self.take_waiting() else {
+                break;
+            };
+            self.follow(place)?;
+            some = true;
         }
         Ok(some)
     }
 
-    // The place of the claim whose turn it is, if it waits. It waits no longer.
-    fn take_waiting(&mut self, turn: usize) -> Option<usize>
+    // The place of the first claim that waits. It waits no longer.
+    fn take_waiting(&mut self) -> Option<usize>
         ensures { IsMarked self.old self.new }
     {
-        let Some(place) = self.order.get(turn) else {
+        if self.waiting == 0 {
+            return None;
+        }
+        let Some(place) = self.ring.get(self.first) else {
             return None;
         };
         let place = *place;
-        let Some(mark) = self.marks.get_mut(place) else {
-            return None;
-        };
-        if mark.waits {
+        self.first = self.first.saturating_add(1);
+        if self.first >= self.ring.len() {
+            self.first = 0;
+        }
+        self.waiting -= 1;
+        if let Some(mark) = self.marks.get_mut(place) {
             mark.waits = false;
-            Some(place)
+        }
+        Some(place)
+    }
+
+    // Gives a claim the last place in the ring.
+    fn wait(&mut self, place: usize)
+        ensures { IsMarked self.old self.new }
+    {
+        let size = self.ring.len();
+        let end = self.first.saturating_add(self.waiting);
+        let at = if end < size {
+            end
         } else {
-            None
+            end.saturating_sub(size)
+        };
+        if self.waiting < size && at < size {
+            self.ring[at] = place;
+            self.waiting += 1;
         }
     }
 
@@ -332,9 +370,14 @@ impl Search<'_> {
         let Some(mark) = self.marks.get_mut(place) else {
             return;
         };
-        mark.waits = mark.waits || grew;
+        let waits = mark.waits;
+        mark.waits = waits || grew;
         if raises {
             mark.raised_by = from;
+            self.rose = true;
+        }
+        if grew && !waits {
+            self.wait(place);
         }
     }
 }

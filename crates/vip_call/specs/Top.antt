@@ -364,7 +364,7 @@ ProvesCertified call =
     → Certifies loaded pieces
 
 -- Where the words and the contents come to it that a game has no certificate, there is none: no text of at most 1,048,576 bytes is one that `safe` accepts for
--- it. And where they come to a certificate, it is the least: each other one has a line around each of its lines.
+-- it. That one is the least which they come to stands with it (`IsFound` in `game_check/specs/Least.antt`).
 abbrev pub DecidesCertify : Call → Type 0
 DecidesCertify call =
     (asked : Asked) (code : Code (List ℕ)) (edition : Edition) (game report : List ℕ)

@@ -110,8 +110,8 @@ RoutineFound rom address p k =
 abbrev pub timing_shown : List ℕ → List ℕ → List ℕ
 timing_shown source text = routine_shown (rom_in source) (origins_of Cdp1802 (source_lines source)) text
 
--- The first fault of the source; that the entry's name has no number; some certificate; or where the search for one ended: of which routines one is found, and
--- what is named where none is, nothing is said.
+-- The first fault of the source; that the entry's name has no number; some certificate; or what is true of the ROM where none is found. For which routines one is
+-- found nothing is said, nor which of several causes is named.
 abbrev pub TimingComes : List ℕ → Entry → ℕ → ℕ → Judged Output
 TimingComes source entry p k =
     bind (SourceRom source) (λ made. bind (EntryComes made.made entry) (λ address. bind (RoutineFound (rom_in source) address p k)

@@ -13,12 +13,12 @@ pub returns-then-not-branch : goal.returns-then-not-branch
 returns-then-not-branch c =
     settles c.args.edition c.args.game.now c.loop-search.search c.round.new.self c.in_ok-round.field-0 c.in_ok-round.ensures.grown c.if-not-branch.true
     c.loop-search.invariant.edition c.loop-search.invariant.game c.loop-search.invariant.kept (c.in_ok-round.ensures.closed c.if-not-branch.true)
-    (ap (λ claims. leb (sum_by line_bytes claims) most_bytes) (sym c.as_slice.ensures.value) ∙ sym c.fits.ensures ∙ c.loop-search-test.true)
+    (ap (λ claims. leb (sum_by line_bytes claims) most_bytes) (sym c.as_slice-in-loop-search.ensures.value) ∙ sym c.fits-in-loop-search.ensures ∙ c.loop-search-test.true)
 
 pub loop-search-smaller : goal.loop-search-smaller
 loop-search-smaller c =
     less_left c.loop-search.search c.round.new.self c.in_ok-round.field-0 c.in_ok-round.ensures.grown c.if-not-branch.false c.loop-search.invariant.kept
-    (ap (λ claims. leb (sum_by line_bytes claims) most_bytes) (sym c.as_slice.ensures.value) ∙ sym c.fits.ensures ∙ c.loop-search-test.true)
+    (ap (λ claims. leb (sum_by line_bytes claims) most_bytes) (sym c.as_slice-in-loop-search.ensures.value) ∙ sym c.fits-in-loop-search.ensures ∙ c.loop-search-test.true)
 
 pub loop-search-preserved : goal.loop-search-preserved
 loop-search-preserved c = record {
@@ -33,4 +33,4 @@ returns c =
     rw (c.loop-search.invariant.edition, c.loop-search.invariant.game) at c.loop-search.invariant.kept in
     too_long c.args.edition c.args.game.now c.loop-search.search.claims.items are
     (leb-false (sum_by line_bytes c.loop-search.search.claims.items) most_bytes
-    (ap (λ claims. leb (sum_by line_bytes claims) most_bytes) (sym c.as_slice.ensures.value) ∙ sym c.fits.ensures ∙ c.loop-search-test.false))
+    (ap (λ claims. leb (sum_by line_bytes claims) most_bytes) (sym c.as_slice-in-loop-search.ensures.value) ∙ sym c.fits-in-loop-search.ensures ∙ c.loop-search-test.false))
