@@ -220,7 +220,7 @@ module _ (rom : List ℕ) (bound : Bound) (lines : List Line) (made : AreMade ro
         omega (arith, climbs (length lines - 1) d last, (inside (length lines - 1) d last).1)
   ]
 
-  all_bytes : All (λ line. IsOfByte line.fact) lines
+  pub all_bytes : All (λ line. IsOfByte line.fact) lines
   all_bytes i d low =
       let Q : Line → Type 0 = λ l. IsOfByte l.fact in
       subst Q (get_or-map without_costs lines i d (without_costs d) low) (made.of_ways.bytes i (without_costs d) (rw length-map low))

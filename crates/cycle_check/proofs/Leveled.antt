@@ -22,7 +22,7 @@ use Rattle.cycle_check.proofs.Raised.{none_least}
 -- ---- lines with STEPs of their own and no BASE
 
 module _ (step : Line → ℕ) where
-  abbrev flat : Line → Line
+  abbrev pub flat : Line → Line
   flat line = record line { base = 0; step = step line }
 
   pub flat_bare : (lines : List Line) → map without_costs (map flat lines) ≡ map without_costs lines
@@ -83,7 +83,7 @@ module _ (old new : List Line) (differ : DifferInBases old new) where
       let f : Line → Line = with_base (λ a. 0) in
       sym (length-map new f) ∙ ap (λ (ls : List Line). length ls) (differ (λ a. 0)) ∙ length-map old f
 
-  pub same_but : (i : ℕ) (d : Line) → i < length new → with_base (λ a. 0) (get_or new i d) ≡ with_base (λ a. 0) (get_or old i d)
+  same_but : (i : ℕ) (d : Line) → i < length new → with_base (λ a. 0) (get_or new i d) ≡ with_base (λ a. 0) (get_or old i d)
   same_but i d within =
       let f : Line → Line = with_base (λ a. 0) in
       sym (get_or-map f new i d d within) ∙ ap (λ (ls : List Line). get_or ls i d) (differ (λ a. 0))

@@ -18,6 +18,7 @@ pub mod Appends
 pub mod LeastSteps
 pub mod Leveled
 pub mod Mixed
+pub mod Ordering
 pub mod Pacing
 pub mod Unpaid
 pub mod Carried
@@ -25,3 +26,9 @@ pub mod Gaps
 pub mod Reaching
 pub mod Written
 pub mod Certified
+pub mod Closing
+pub mod Behind
+pub mod Setting
+pub mod Unchanged
+pub mod LeastLines
+pub mod Counted

@@ -51,14 +51,14 @@ module _ (rom : List ℕ) (bound : Bound) (lines : List Line) where
 
 -- ---- marks
 
-led_parts : (reach : Marks) (address : ℕ) → is_marked reach address ≡ true
+pub led_parts : (reach : Marks) (address : ℕ) → is_marked reach address ≡ true
     → ((0x8000 ≤ address) × (address < 0x8800)) × (get_or reach.marked.items (address - 0x8000) false ≡ true)
 led_parts reach address led =
     let parts = and_parts (leb 0x8000 address && ltb address 0x8800) (get_or reach.marked.items (address - 0x8000) false) led in
     let inside = and_parts (leb 0x8000 address) (ltb address 0x8800) parts.0 in
     ((leb-true 0x8000 address inside.0, ltb-true address 0x8800 inside.1), parts.1)
 
-led_there : (reach : Marks) (address : ℕ) → (0x8000 ≤ address) × (address < 0x8800) → get_or reach.marked.items (address - 0x8000) false ≡ true
+pub led_there : (reach : Marks) (address : ℕ) → (0x8000 ≤ address) × (address < 0x8800) → get_or reach.marked.items (address - 0x8000) false ≡ true
     → is_marked reach address ≡ true
 led_there reach address inside there = rw (le-leb 0x8000 address inside.0, lt-ltb address 0x8800 inside.1, there) refl
 

@@ -332,11 +332,18 @@ module _ (rom : List ℕ) (bound : Bound) where
   IsLeastOfLoop lines line = (less : ℕ) → less < line.step → (base step : ℕ → ℕ)
       → All (λ other. AreJoined lines line.address other.address → step other.address ≡ less) lines → AreClosed (with_costs base step lines) → ⊥
 
-  -- with its BASE and a lesser STEP a line isn't closed
-  abbrev pub IsLeastAlone : List Line → Line → Type 0
-  IsLeastAlone lines line = (less : ℕ) → less < line.step → is_closed bound lines (record line { step = less }) (instruction_at rom line.address) ≡ false
+  -- a STEP is 0, or no greater than that of a line to which an address leads
+  abbrev pub IsOfNext : List Line → ℕ → ℕ → Type 0
+  IsOfNext lines address step = (step ≡ 0) ⊎ ((to : ℕ) × (by : LeadsBy lines address to) × (step ≤ by.behind.step))
 
-  -- A loop has one STEP, which is the least; and a line of no loop has the least with its BASE.
+  -- A line of no loop. Of the BASEs with which such a STEP closes it it has the least, and with that the least STEP.
+  pub record IsLeastAlone (lines : List Line) (line : Line) : Type 0 where
+    pub of_next : IsOfNext lines line.address line.step
+    pub base : (base step : ℕ) → base < line.base → IsOfNext lines line.address step
+        → is_closed bound lines (record line { base = base; step = step }) (instruction_at rom line.address) ≡ false
+    pub step : (less : ℕ) → less < line.step → is_closed bound lines (record line { step = less }) (instruction_at rom line.address) ≡ false
+
+  -- A loop has one STEP, which is the least; and a line of no loop has the least BASE and STEP that lines behind it allow.
   pub record IsPaced (lines : List Line) (line : Line) : Type 0 where
     pub one : HasOneStep lines line
     pub of_loop : Leads lines line.address line.address → IsLeastOfLoop lines line

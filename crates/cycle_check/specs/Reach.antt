@@ -22,6 +22,10 @@ HasPlaces reach = length reach.marked.items ≡ 2048
 abbrev pub unmarked : Marks → ℕ
 unmarked reach = sum_by (λ led. if led then 0 else 1) reach.marked.items
 
+-- how many are
+abbrev pub marked_count : Marks → ℕ
+marked_count marks = sum_by (λ marked. if marked then 1 else 0) marks.marked.items
+
 -- fewer aren't, or the marks are the same
 abbrev pub HasMore : Bool → Marks → Marks → Type 0
 HasMore true old new = unmarked new < unmarked old

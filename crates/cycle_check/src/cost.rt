@@ -2,7 +2,7 @@
 
 ghost use Rattle.std.specs.Prelude.{◌≤◌, length};
 
-use crate::closed::{admits, counter_after, is_open, known_d, left};
+use crate::closed::{admits, counter_after, is_open, known_d, left, lets_through};
 use crate::components::Member;
 use crate::graph::{Graph, Node};
 use crate::table::Way;
@@ -39,20 +39,31 @@ pub fn first_count(members: &[Member]) -> usize
     members.len()
 }
 
-// A line that doesn't lead back to itself. It takes a STEP where that makes its BASE less, and then the least one with which its BASE is that.
+// A line that doesn't lead back to itself takes the least BASE with the STEPs of the lines behind it, and then the least STEP with which its BASE is that.
 fn settle_line(graph: &mut Graph, member: &Member) {
-    let flat = base_of(graph, &member.node, 0);
-    let slope = slope_of(graph, &member.node);
-    let base = base_of(graph, &member.node, slope);
-    if flat <= base {
-        set_costs(graph, member.place, flat, 0);
-    } else {
-        set_costs(
-            graph,
-            member.place,
-            base,
-            step_with(graph, &member.node, base),
-        );
+    let base = base_of(graph, &member.node, step_behind(graph, &member.node));
+    set_costs(
+        graph,
+        member.place,
+        base,
+        step_with(graph, &member.node, base),
+    );
+}
+
+// The greatest STEP of the lines behind a line.
+fn step_behind(graph: &Graph, node: &Node) -> u32 {
+    let first = step_on(graph, node, node.ways.first);
+    match node.ways.second {
+        Some(second) => first.max(step_on(graph, node, second)),
+        None => first,
+    }
+}
+
+// The STEP of the line at the end of a way, where the line's fact lets the way through.
+fn step_on(graph: &Graph, node: &Node, way: Way) -> u32 {
+    match graph.node_behind(way) {
+        Some(behind) if lets_through(node.line.fact, way.when) => behind.line.step,
+        _ => 0,
     }
 }
 
@@ -148,12 +159,6 @@ pub fn base_of(graph: &Graph, node: &Node, step: u32) -> u32 {
         base = base.max(need_at(graph, node, counter).saturating_sub(paid));
     }
     base.min(u64::from(u32::MAX)) as u32
-}
-
-// By how much a line costs more for one more of the counter.
-fn slope_of(graph: &Graph, node: &Node) -> u32 {
-    let more = need_at(graph, node, 2).saturating_sub(need_at(graph, node, 1));
-    more.min(u64::from(u32::MAX)) as u32
 }
 
 // The most cycles that are left at a line at a value of the counter, with the lines behind it as they are.

@@ -33,8 +33,8 @@ use vip_byte::MOST_TEXT;
 /// Each exit is by SEP of another register, or leads out of the ROM.
 ///
 /// The lines are of exactly the addresses to which ways lead that their facts let through. Each says the X that all ways there show; and a fact where one
-/// can be said: what D is, where D is asked for soon, or that the counter isn't 0. A loop has one STEP, the least that pays its turns; a line of no loop has
-/// the least with its BASE; and each BASE is the least with these STEPs.
+/// can be said: what D is, where D is asked for soon, or that the counter isn't 0. A loop has one STEP, the least that pays its turns; another line has the
+/// least BASE that STEPs of the lines behind it allow, and then the least STEP; and each BASE is the least with these STEPs.
 ///
 /// Where none is found the answer is an address whose opcode no line allows, or of a loop that isn't counted, or whose BASE passes 1,000,000; or where one
 /// fact a line doesn't suffice: the address of a turn that no BASEs and no STEP close for these lines, or of an opcode that isn't allowed at its line, or the
@@ -192,7 +192,7 @@ fn have_low_steps(lines: &[Line]) -> bool
     true
 }
 
-// The text of a certificate with closed lines, whose STEPs are lowered until each is the least; or what stands against one.
+// The text of a certificate with closed lines, whose STEPs are changed until each is the least; or what stands against one.
 fn certify_paced(
     alloc: Global,
     forward: &Forward,

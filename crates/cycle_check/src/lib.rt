@@ -18,6 +18,7 @@ ghost use Rattle.cycle_check.specs.Exits.{exits_in};
 ghost use Rattle.cycle_check.specs.Leaving.{IsWithin};
 ghost use Rattle.cycle_check.specs.Reading.{IsRead};
 
+mod alone;
 mod certificate;
 mod closed;
 mod components;

@@ -1,19 +1,19 @@
 //! STEPs that are the least.
 //!
-//! The STEP of a loop is the least where a turn of it costs more than one less pays for, and then more than each lesser one does; that of a line of no loop is
-//! where the line isn't closed with one less. Where neither is shown the lines are closed with one less too, or they are with no BASEs, and so with no lesser
-//! STEP.
+//! The STEP of a loop is the least where a turn of it costs more than one less pays for, and then more than each lesser one does. Where no turn shows that, the
+//! lines are closed with one less too, or they are with no BASEs, and so with no lesser STEP. The lines of no loop have theirs by those behind them.
 
 ghost use Rattle.std.specs.Prelude.{◌≡◌, ◌-◌, ◌<◌, ◌≤◌, true, false, IfOk, OnOk, MatchOption, Some};
 ghost use Rattle.std.specs.List.{All, Any};
 ghost use Rattle.cycle_check.specs.declared.grammar.Line.{Line};
 ghost use Rattle.cycle_check.specs.Closed.{line_at};
-ghost use Rattle.cycle_check.specs.Obstacles.{AreJoined, ArePaced, IsLeastAlone, IsLeastOfLoop, IsPaced, Leads};
-ghost use Rattle.cycle_check.specs.Pace.{AreAlone, AreLeastAt, AreLess, AreSettled, IsWhole, StayOpen, all_lowered, is_among, lowered};
+ghost use Rattle.cycle_check.specs.Obstacles.{AreJoined, ArePaced, IsLeastOfLoop, Leads};
+ghost use Rattle.cycle_check.specs.Pace.{AreAlone, AreLeastAt, AreLess, AreOfLeastLoops, AreRounds, AreSettled, IsWhole, StayOpen, all_lowered, is_among, lowered};
 ghost use Rattle.cycle_check.specs.Reach.{IsReachOf};
 ghost use Rattle.cycle_check.specs.Reading.{AreRising};
 
-use crate::closed::{instruction_at, is_closed, line_at};
+use crate::alone::settle_alone;
+use crate::closed::line_at;
 use crate::components::Member;
 use crate::cost::first_count;
 use crate::grammar::{Bound, Line};
@@ -25,7 +25,7 @@ use crate::short::short_turn;
 use crate::turn::is_short;
 use std::alloc::{AllocError, Global};
 
-/// Lowers STEPs of closed lines until each is the least.
+/// Lowers STEPs of closed lines until those of loops are the least, and gives each other line the least BASE and STEP.
 pub fn pace(
     alloc: Global,
     rom: &[u8],
@@ -39,13 +39,23 @@ pub fn pace(
     ensures settled { OnOk result (AreSettled rom.now bound.now lines.new.items) }
     ensures paced { OnOk result (ArePaced rom.now bound.now lines.new.items) }
 {
-    while let Some(less) = first_less(alloc, rom, bound, graph, members, ranks, lines.as_slice())? {
+    let mut least = no_marks(alloc)?;
+    while let Some(less) = first_less(
+        alloc,
+        rom,
+        bound,
+        graph,
+        members,
+        ranks,
+        &mut least,
+        lines.as_slice(),
+    )? {
         *lines = less;
     }
-    Ok(())
+    settle_alone(alloc, rom, bound, graph, &least, lines)
 }
 
-// Closed lines with less STEPs, where the STEP of a line isn't the least.
+// Closed lines with less STEPs, where the STEP of a loop isn't the least. Lines of loops are marked of whose STEP a turn shows that it is.
 fn first_less(
     alloc: Global,
     rom: &[u8],
@@ -53,16 +63,18 @@ fn first_less(
     graph: &mut Graph,
     members: &[Member],
     ranks: &Ranks,
+    least: &mut Marks,
     lines: &[Line],
 ) -> Result<Option<Vec<Line>>, AllocError>
     requires { AreSettled rom.now bound.now lines.now }
-    ensures { IfOk result (λ found. MatchOption found (ArePaced rom.now bound.now lines.now) (λ less. AreLess rom.now bound.now lines.now less.items)) }
+    ensures found { IfOk result (λ found. MatchOption found (AreOfLeastLoops rom.now bound.now lines.now) (λ less. AreLess rom.now bound.now lines.now less.items)) }
+    ensures rounds { OnOk result (AreRounds rom.now bound.now lines.now least.new) }
 {
-    let least = least_of(alloc, rom, bound, graph, members, lines)?;
+    *least = least_of(alloc, rom, bound, graph, members, lines)?;
     let alone = alone_of(alloc, rom, bound, ranks, lines)?;
     for place in 0..lines.len() {
         let line = lines[place];
-        if let Some(less) = less_at(alloc, rom, bound, graph, &least, &alone, lines, &line)? {
+        if let Some(less) = less_at(alloc, rom, bound, graph, least, &alone, lines, &line)? {
             return Ok(Some(less));
         }
     }
@@ -179,7 +191,7 @@ fn mark_loop(
     Ok(())
 }
 
-// Closed lines with less STEPs, where that of a line isn't the least.
+// Closed lines with less STEPs, where that of a line's loop isn't the least.
 fn less_at(
     alloc: Global,
     rom: &[u8],
@@ -194,20 +206,18 @@ fn less_at(
     requires least { AreLeastAt rom.now bound.now lines.now least.now }
     requires alone { AreAlone rom.now bound.now lines.now alone.now }
     requires there { line_at lines.now line.now.address ≡ Some line.now }
-    ensures { IfOk result (λ found. MatchOption found (IsPaced rom.now bound.now lines.now line.now) (λ less. AreLess rom.now bound.now lines.now less.items)) }
+    ensures { IfOk result (λ found. MatchOption found
+        (Leads rom.now bound.now lines.now line.now.address line.now.address → IsLeastOfLoop rom.now bound.now lines.now line.now)
+        (λ less. AreLess rom.now bound.now lines.now less.items)) }
 {
-    if line.step == 0 || least.has(line.address) {
+    if line.step == 0 || least.has(line.address) || alone.has(line.address) {
         return Ok(None);
     }
-    if alone.has(line.address) {
-        return less_alone(alloc, rom, bound, graph, lines, line);
-    }
     let reach = reach_of(alloc, rom, bound, lines, line.address)?;
-    if reach.has(line.address) {
-        less_of_loop(alloc, rom, bound, graph, lines, line, &reach)
-    } else {
-        less_alone(alloc, rom, bound, graph, lines, line)
+    if !reach.has(line.address) {
+        return Ok(None);
     }
+    less_of_loop(alloc, rom, bound, graph, lines, line, &reach)
 }
 
 // The same for a line that leads back to itself.
@@ -274,32 +284,6 @@ fn leads_back(
     }
     let back = reach_of(alloc, rom, bound, lines, other)?;
     Ok(back.has(address))
-}
-
-// The same for a line that doesn't lead back to itself.
-fn less_alone(
-    alloc: Global,
-    rom: &[u8],
-    bound: &Bound,
-    graph: &mut Graph,
-    lines: &[Line],
-    line: &Line,
-) -> Result<Option<Vec<Line>>, AllocError>
-    requires settled { AreSettled rom.now bound.now lines.now }
-    requires there { line_at lines.now line.now.address ≡ Some line.now }
-    requires some { 0 < line.now.step }
-    requires alone { Leads rom.now bound.now lines.now line.now.address line.now.address → ⊥ }
-    ensures { IfOk result (λ found. MatchOption found (IsLeastAlone rom.now bound.now lines.now line.now) (λ less. AreLess rom.now bound.now lines.now less.items)) }
-{
-    let less = Line {
-        step: line.step.saturating_sub(1),
-        ..*line
-    };
-    if !is_closed(bound, lines, &less, &instruction_at(rom, line.address)) {
-        return Ok(None);
-    }
-    // these are closed with the BASEs that the lines have, so there are some
-    lowered_at(alloc, rom, bound, graph, lines, &[line.address])
 }
 
 // Closed lines with a STEP of one less at the lines of whole loops; or no BASEs close those.

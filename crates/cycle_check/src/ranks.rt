@@ -1,16 +1,17 @@
 //! Numbers of lines that show which lines are of no loop, and that the lines of a loop have one STEP: no way leads to a greater one.
 
-ghost use Rattle.std.specs.Prelude.{◌≡◌, ◌<◌, ◌⊎◌, true, IfSome, Some};
+ghost use Rattle.std.specs.Prelude.{◌≡◌, ℕ, ◌<◌, ◌≤◌, ◌⊎◌, true, IfOk, IfSome, Some};
 ghost use Rattle.cycle_check.specs.declared.grammar.Line.{Line};
 ghost use Rattle.cycle_check.specs.Closed.{line_at};
-ghost use Rattle.cycle_check.specs.Pace.{AreOrdered, Falls, rank_at};
+ghost use Rattle.cycle_check.specs.Forward.{AreMade};
+ghost use Rattle.cycle_check.specs.Pace.{AreOrdered, AreRanked, Falls, rank_at};
 ghost use Rattle.cycle_check.specs.Reading.{AreRising};
 
 use crate::closed::line_at;
 use crate::components::Member;
 use crate::forward::ROM_SIZE;
 use crate::grammar::{Bound, Line};
-use crate::reach::next_of;
+use crate::reach::{next_of, reach_of};
 use std::alloc::{AllocError, Global};
 
 /// A number for each address of the ROM.
@@ -36,9 +37,28 @@ pub fn ranks_of(alloc: Global, members: &[Member]) -> Result<Ranks, AllocError> 
     Ok(Ranks { ranks })
 }
 
+/// Numbers each address of the ROM by how many addresses its line leads to.
+pub fn ranks_by_reach(
+    alloc: Global,
+    rom: &[u8],
+    bound: &Bound,
+    lines: &[Line],
+) -> Result<Ranks, AllocError>
+    requires { AreMade rom.now bound.now lines.now }
+    ensures ranked { IfOk result (AreRanked rom.now bound.now lines.now) }
+    ensures few { IfOk result (λ ranks. (address : ℕ) → rank_at ranks address ≤ 2048) }
+{
+    let mut ranks = vec![in alloc; 0u16; ROM_SIZE]?;
+    for place in 0..ranks.len() {
+        let reach = reach_of(alloc, rom, bound, lines, 0x8000 + place as u16)?;
+        ranks[place] = reach.count();
+    }
+    Ok(Ranks { ranks })
+}
+
 impl Ranks {
-    // The number of an address.
-    fn rank(&self, address: u16) -> u16
+    /// The number of an address.
+    pub fn rank(&self, address: u16) -> u16
         ensures { result ≡ rank_at self.now address }
     {
         match self.ranks.get(usize::from(address.saturating_sub(0x8000))) {

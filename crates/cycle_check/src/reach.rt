@@ -2,7 +2,7 @@
 
 ghost use Rattle.std.specs.Prelude.{◌≡◌, ℕ, ◌+◌, ◌<◌, ◌⊎◌, true, false, IfOk, MatchOption, Some};
 ghost use Rattle.cycle_check.specs.Obstacles.{LeadsBy};
-ghost use Rattle.cycle_check.specs.Reach.{AreSources, HasPlaces, IsEndOf, IsMarked, IsNext, IsReachOf, IsRound, is_marked};
+ghost use Rattle.cycle_check.specs.Reach.{AreSources, HasPlaces, IsEndOf, IsMarked, IsNext, IsReachOf, IsRound, is_marked, marked_count};
 ghost use Rattle.cycle_check.specs.Reading.{AreRising};
 
 use crate::closed::{instruction_at, lets_through, line_at, ways_from};
@@ -44,7 +44,8 @@ pub fn reach_of(
     start: u16,
 ) -> Result<Marks, AllocError>
     requires { AreRising lines.now }
-    ensures { IfOk result (IsReachOf rom.now bound.now lines.now start) }
+    ensures places { IfOk result HasPlaces }
+    ensures reach { IfOk result (IsReachOf rom.now bound.now lines.now start) }
 {
     let mut reach = no_marks(alloc)?;
     reach.mark_behind(rom, bound, lines, start);
@@ -131,6 +132,20 @@ impl Marks {
             Some(marked) => *marked,
             None => false,
         }
+    }
+
+    /// How many addresses are marked.
+    pub fn count(&self) -> u16
+        requires { HasPlaces self.now }
+        ensures { result ≡ marked_count self.now }
+    {
+        let mut count = 0;
+        for marked in &self.marked {
+            if *marked {
+                count += 1;
+            }
+        }
+        count
     }
 
     /// Marks an address, where it is one of the ROM.

@@ -1,41 +1,19 @@
 use Rattle.std.proofs.Common.{sym, ◌∙◌, arith}
 use Rattle.std.proofs.lemmas.Result.{IfOk-weaker}
-use Rattle.cycle_check.proofs.Pacing.{match_weaker, paced_alone, paced_of_loop, paced_without}
+use Rattle.cycle_check.proofs.Pacing.{least_without, match_weaker}
 use Rattle.cycle_check.proofs.pace.less_at.Goals as goal
-use Rattle.cycle_check.proofs.pace.less_at.Goals.{then-line-eq0-via-then-line-eq0, then-line-eq0-via-else-line-eq0+then-has}
+use Rattle.cycle_check.proofs.pace.less_at.Goals.{then-line-eq0-via-then-line-eq0, then-line-eq0-via-else-line-eq0+then-has, then-line-eq0-via-else-line-eq0+else-has+then-has-2}
 
 pub returns-then-line-eq0 : goal.returns-then-line-eq0
-returns-then-line-eq0 c =
-    let lines = c.args.lines.now in
+returns-then-line-eq0 c round =
     let line = c.args.line.now in
     elim c.then-line-eq0.branch [
-      | then-line-eq0-via-then-line-eq0 w ↦
-          paced_without c.args.rom.now c.args.bound.now lines c.requires.settled line c.requires.there (omega (arith, w.if-line-eq0.true))
-      | then-line-eq0-via-else-line-eq0+then-has w ↦
-          let least = c.requires.least line.address line (sym w.has.ensures ∙ w.if-has.true) c.requires.there in
-          paced_of_loop c.args.rom.now c.args.bound.now lines c.requires.settled line c.requires.there least.0 least.1
+      | then-line-eq0-via-then-line-eq0 w ↦ least_without c.args.rom.now c.args.bound.now c.args.lines.now line (omega (arith, w.if-line-eq0.true))
+      | then-line-eq0-via-else-line-eq0+then-has w ↦ (c.requires.least line.address (sym w.has.ensures ∙ w.if-has.true)).1 line c.requires.there
+      | then-line-eq0-via-else-line-eq0+else-has+then-has-2 w ↦
+          absurd (c.requires.alone line.address (sym w.has-else-has.ensures ∙ w.if-has-2.true) round)
     ]
-
-pub returns-then-has-2 : goal.returns-then-has-2
-returns-then-has-2 c =
-    let line = c.args.line.now in
-    let alone = c.requires.alone line.address (sym c.has-2.ensures ∙ c.if-has-2.true) in
-    IfOk-weaker c.less_alone.result _ _ (λ found h. match_weaker found _ _ _ _
-    (paced_alone c.args.rom.now c.args.bound.now c.args.lines.now c.requires.settled line c.requires.there alone) (λ less is. is) h)
-    c.less_alone.ensures
-
-pub returns-then-has-3 : goal.returns-then-has-3
-returns-then-has-3 c =
-    let line = c.args.line.now in
-    let round = (c.in_ok-reach.ensures line.address).0 (sym c.has-3.ensures ∙ c.if-has-3.true) in
-    IfOk-weaker c.less_of_loop.result _ _ (λ found h. match_weaker found _ _ _ _
-    (paced_of_loop c.args.rom.now c.args.bound.now c.args.lines.now c.requires.settled line c.requires.there round) (λ less is. is) h)
-    c.less_of_loop.ensures
 
 pub returns : goal.returns
 returns c =
-    let line = c.args.line.now in
-    let alone = (c.in_ok-reach.ensures line.address).1 (sym c.has-3.ensures ∙ c.if-has-3.false) in
-    IfOk-weaker c.less_alone-else-has-3.result _ _ (λ found h. match_weaker found _ _ _ _
-    (paced_alone c.args.rom.now c.args.bound.now c.args.lines.now c.requires.settled line c.requires.there alone) (λ less is. is) h)
-    c.less_alone-else-has-3.ensures
+    IfOk-weaker c.less_of_loop.result _ _ (λ found h. match_weaker found _ _ _ _ (λ least round. least) (λ less is. is) h) c.less_of_loop.ensures

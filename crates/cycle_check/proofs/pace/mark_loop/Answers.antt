@@ -11,7 +11,7 @@ loop-other-preserved c = elim c.if-has.branch [
       rw w.least-is
       (least_marked c.args.rom.now c.args.bound.now c.args.lines.now c.args.turn.now c.requires.settled.one c.in-Some.line
       (rw c.from.ensures at (sym c.line_at.ensures ∙ c.in-Some.is)) (c.is_short.ensures c.if-not-is_short.false) c.loop-other.least w.mark-then-has-2.new.self _
-      c.loop-other.invariant w.mark-then-has-2.ensures ((c.in_ok-behind.ensures _).0 (sym c.has.ensures ∙ w.if-has.true))
+      c.loop-other.invariant w.mark-then-has-2.ensures ((c.in_ok-behind.ensures.reach _).0 (sym c.has.ensures ∙ w.if-has.true))
       (c.in_ok-before.ensures _ (sym w.has-then-has.ensures ∙ w.if-has-2.true)))
   | else-has w ↦ rw w.least-is c.loop-other.invariant
 ]

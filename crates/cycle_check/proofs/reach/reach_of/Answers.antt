@@ -13,8 +13,11 @@ loop-preserved c =
     search_on c.args.rom.now c.args.bound.now c.args.lines.now c.args.start c.mark_round.result c.loop.reach c.mark_round.new.self c.loop.invariant
     c.mark_round.ensures
 
-pub returns : goal.returns
-returns c =
+pub returns-clause-places : goal.returns-clause-places
+returns-clause-places c = c.mark_round.ensures.places
+
+pub returns-clause-reach : goal.returns-clause-reach
+returns-clause-reach c =
     search_ends c.args.rom.now c.args.bound.now c.args.lines.now c.args.start c.loop.reach c.mark_round.new.self c.loop.invariant
     (subst (λ more. IsRound c.args.rom.now c.args.bound.now c.args.lines.now 0x8800 more c.loop.reach c.mark_round.new.self) c.loop-test.false
     c.mark_round.ensures)
