@@ -234,7 +234,7 @@ module _ (rom : List ℕ) (bound : Bound) (lines : List Line) (made : AreMade ro
       omega (arith, rw over.3 at least, few, all, over.4.1)
 
   pub grown : All (λ line. line.step ≡ level_step) lines → (P : Type 0) (found : Option ℕ) → MatchOption found P (IsOver lines)
-      → MatchOption found P (IsGrown rom bound lines)
+      → MatchOption found P (λ address. IsGrown rom bound lines)
   grown level P None holds = holds
   grown level P (Some address) over =
-      record { level = level; more = over; stays_open = over_open (λ i d within. omega (arith, level i d within)) address over }
+      record { level = level; stays_open = over_open (λ i d within. omega (arith, level i d within)) address over }

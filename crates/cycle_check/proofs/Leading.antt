@@ -36,6 +36,23 @@ fits-common (Some asked) (Some one) (Some other) h h' =
     let same : one ≡ other = sym (eqb-true asked one h) ∙ eqb-true asked other h' in
     rw (eq-eqb one other same) h
 
+-- what one of two ways gives alike fits where its own X does
+fits-either : (one other given : Option ℕ) → fits_x one given ≡ true → fits_x (common one other) given ≡ true
+fits-either None other given fits = fits-none given
+fits-either (Some one) None given fits = fits-none given
+fits-either (Some one) (Some other) given fits = elim (cases_Bool (eqb one other)) [
+  | inl same ↦ rw same fits
+  | inr differ ↦ rw differ (fits-none given)
+]
+
+same-given : (x : ℕ) (given : Option ℕ) → fits_x (Some x) given ≡ true → given ≡ Some x
+same-given x None fits = absurd (true≢false (sym fits))
+same-given x (Some given) fits = ap Some (sym (eqb-true x given fits))
+
+fits-after : (kind : Kind) (n : ℕ) (asked given : Option ℕ) → fits_x asked given ≡ true → fits_x (x_after kind n asked) (x_after kind n given) ≡ true
+fits-after Sex n asked given fits = eq-eqb n n refl
+fits-after _ n asked given fits = fits
+
 -- a line is allowed at an X where it is at one that fits it
 apart-more : (p k : ℕ) (asked given : Option ℕ) → fits_x asked given ≡ true → is_apart p k asked ≡ true → is_apart p k given ≡ true
 apart-more p k None given fits apart = absurd (true≢false (sym apart))
@@ -150,6 +167,7 @@ module _ (rom : List ℕ) (bound : Bound) where
   pub nothing_known : IsKnown rom bound bound.entry (record { x = None; copy = false; some = false; byte = None })
   nothing_known = record {
     led = (None, Enters);
+    fits = refl;
     x = λ asked fits. fits None Enters;
     copy = λ _. Unknown says.Copy (λ e. cc);
     some = λ _. Unknown says.NonZero (λ e. cc);
@@ -160,6 +178,7 @@ module _ (rom : List ℕ) (bound : Bound) where
       → IsKnown rom bound address (join one other)
   joined_known address one other h h' = record {
     led = h.led;
+    fits = fits-either one.x other.x h.led.0 h.fits;
     x = λ asked fits. fits-common asked one.x other.x (h.x asked fits) (h'.x asked fits);
     copy = λ lost. either one.copy other.copy _ lost h.copy h'.copy;
     some = λ lost. either one.some other.some _ lost h.some h'.some;
@@ -195,7 +214,8 @@ module _ (rom : List ℕ) (bound : Bound) where
 
   -- ---- behind an instruction
 
-  module _ (address to : ℕ) (known : Knowledge) (way : Way) (h : IsKnown rom bound address known) (may : MayBeAllowed rom bound address)
+  module _ (address to : ℕ) (known : Knowledge) (way : Way) (h : IsKnown rom bound address known)
+      (may : (x : Option ℕ) → fits_x known.x x ≡ true → MayBeAllowed rom bound address x)
       (is_way : IsWay rom bound address way to) (opens : is_open way.when known.byte ≡ true) where
     abbrev i : Instruction
     i = instruction_at rom address
@@ -206,15 +226,22 @@ module _ (rom : List ℕ) (bound : Bound) where
     shown-lost : (asked : Fact) → is_known_behind bound.k i way.when known asked ≡ false → IsLost rom bound to asked
     unfolding is_known_behind
     shown-lost asked none =
-        Passes address to h.led.0 way asked h.led.1 may is_way passed
+        Passes address to h.led.0 way asked h.led.1 (may h.led.0 h.fits) is_way passed
         (λ held shown. lost_of address known h held (missing known (λ held. is_shown bound.k i held way.when 0 asked) none held shown))
 
     -- an X that fits all that is given behind it fits what is known there
+    fits-known : (asked x : Option ℕ) → known.x ≡ x
+        → ((given : Option ℕ) → LeadsTo rom bound address given → fits_x x given ≡ true → fits_x asked given ≡ true) → fits_x asked x ≡ true
+    fits-known asked None is fits = rw is at (h.x asked (λ given led. fits given led (fits-none given)))
+    fits-known asked (Some x) is fits =
+        let there : fits_x (Some x) h.led.0 ≡ true = rw is at h.fits in
+        subst (λ given. fits_x asked given ≡ true) (same-given x h.led.0 there) (fits h.led.0 h.led.1 there)
+
     fits-behind : (kind : Kind) (n : ℕ) (asked : Option ℕ)
-        → ((given : Option ℕ) → LeadsTo rom bound address given → fits_x asked (x_after kind n given) ≡ true)
+        → ((given : Option ℕ) → LeadsTo rom bound address given → fits_x known.x given ≡ true → fits_x asked (x_after kind n given) ≡ true)
         → fits_x asked (x_after kind n known.x) ≡ true
-    fits-behind Sex n asked fits = fits h.led.0 h.led.1
-    fits-behind _ n asked fits = h.x asked fits
+    fits-behind Sex n asked fits = fits h.led.0 h.led.1 h.fits
+    fits-behind _ n asked fits = fits-known asked known.x refl fits
 
     -- the byte that D is behind it
     byte-lost : (byte : ℕ) → (kept_byte bound.k i way.when known (byte_after i.op.kind i.next known.byte) ≡ Some byte → ⊥) → IsLost rom bound to (says.Is byte)
@@ -231,8 +258,11 @@ module _ (rom : List ℕ) (bound : Bound) where
     pub behind_known : IsKnown rom bound to (known_behind bound.k i way.when known)
     unfolding known_behind
     behind_known = record {
-      led = (x_after i.op.kind i.op.n h.led.0, Goes address to h.led.0 way h.led.1 may is_way passed);
-      x = λ asked fits. fits-behind i.op.kind i.op.n asked (λ given led. fits (x_after i.op.kind i.op.n given) (Goes address to given way led may is_way passed));
+      led = (x_after i.op.kind i.op.n h.led.0, Goes address to h.led.0 way h.led.1 (may h.led.0 h.fits) is_way passed);
+      fits = fits-after i.op.kind i.op.n known.x h.led.0 h.fits;
+      x = λ asked fits.
+          fits-behind i.op.kind i.op.n asked
+          (λ given led here. fits (x_after i.op.kind i.op.n given) (Goes address to given way led (may given here) is_way passed));
       copy = λ lost. shown-lost says.Copy lost;
       some = λ lost. shown-lost says.NonZero lost;
       byte = byte-lost;

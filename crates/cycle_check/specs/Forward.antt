@@ -65,9 +65,10 @@ join one other = record {
 -- ---- what is kept
 
 module _ (rom : List ℕ) (bound : Bound) where
-  -- Ways lead to an address, and what isn't known there is lost: an X that each of them gives is the one that is known.
+  -- Ways lead to an address, one of which gives the X that is known, and what isn't known there is lost: an X that each of them gives is the one that is known.
   pub record IsKnown (address : ℕ) (known : Knowledge) : Type 0 where
     pub led : IsLed rom bound address
+    pub fits : fits_x known.x led.0 ≡ true
     pub x : (asked : Option ℕ) → FitsAll rom bound address asked → fits_x asked known.x ≡ true
     pub copy : known.copy ≡ false → IsLost rom bound address says.Copy
     pub some : known.some ≡ false → IsLost rom bound address says.NonZero

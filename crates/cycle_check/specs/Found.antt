@@ -16,6 +16,7 @@ use Rattle.cycle_check.specs.Certificate.{certificate_format, certificate_of}
 use Rattle.cycle_check.specs.Closed.{bytes_at, checked, left, line_at}
 use Rattle.cycle_check.specs.Exits.{exits, remarks_text}
 use Rattle.cycle_check.specs.Obstacles.{AreLeast, AreOfWays, ArePaced, IsBarred, IsGrown, IsMost, IsRefused, IsUncounted, IsUnpaid}
+use Rattle.cycle_check.specs.Reading.{AreStrict}
 
 -- ---- the text of a certificate: single blanks, upper-case digits, no leading zeros
 
@@ -83,7 +84,8 @@ pub record IsCertificate (rom : List ℕ) (entry p k : ℕ) (text : List ℕ) : 
   pub leaves : All (λ exit. leaves_rom exit.to) (exits rom bound lines)
   pub limit : HasLimit bound lines
 
--- One is found: it is the text of lines of exactly the addresses that are reached, each with the least BASE and the least STEP of its loop.
+-- One is found: it is the text of lines of exactly the addresses that are reached, each with the least BASE, and with the least STEP of its loop or before the
+-- lines behind it.
 pub record IsFoundFrom (rom : List ℕ) (start : Bound) (text : List ℕ) : Type 0 where
   pub limit : ℕ
   pub lines : List Line
@@ -99,21 +101,21 @@ IsFound rom entry p k text = IsFoundFrom rom (record { entry = entry; p = p; k =
 
 -- ---- why none is found
 
--- What stands against lines at an address: a turn that isn't paid for, an opcode, BASEs that grow without end. Of the entry: that the program counter is to
+-- What stands against lines at an address: a turn that isn't paid for, an opcode. Of the entry: that BASEs grow without end, that the program counter is to
 -- count, or that no register has such a number.
 pub data Against (rom : List ℕ) (bound : Bound) (lines : List Line) : ℕ → Type 0 where
   Turn : (address : ℕ) → IsUnpaid rom bound lines address → Against rom bound lines address
   Barred : (address : ℕ) → IsBarred rom bound lines address → Against rom bound lines address
-  Grows : (address : ℕ) → IsGrown rom bound lines address → Against rom bound lines address
+  Grows : IsGrown rom bound lines → Against rom bound lines bound.entry
   Same : bound.p ≡ bound.k → Against rom bound lines bound.entry
   Registers : (15 < bound.p) ⊎ (15 < bound.k) → Against rom bound lines bound.entry
 
 module _ (rom : List ℕ) (bound : Bound) where
-  -- Lines of exactly the addresses that are reached, with no BASE above the least, are no certificate for what stands against them at the address.
+  -- Lines of exactly the addresses that are reached, one for each, are no certificate for what stands against them at the address.
   pub record IsUnfounded (address : ℕ) : Type 0 where
     pub lines : List Line
+    pub strict : AreStrict lines
     pub of_ways : AreOfWays rom bound lines
-    pub least : AreLeast rom bound lines
     pub against : Against rom bound lines address
 
   -- what is said of an address is true of the source

@@ -11,7 +11,8 @@ use Rattle.cycle_check.specs.declared.grammar.Line.{Line}
 use Rattle.cycle_check.specs.declared.closed.Instruction.{Instruction}
 use Rattle.cycle_check.specs.declared.table.Way.{Way}
 use Rattle.cycle_check.specs.declared.table.Ways.{Ways}
-use Rattle.cycle_check.specs.Table.{assigns_d, assigns_named, x_after}
+use Rattle.cycle_check.specs.Reading.{AreStrict}
+use Rattle.cycle_check.specs.Table.{assigns_d, x_after}
 use Rattle.cycle_check.specs.Certificate.{most_left}
 use Rattle.cycle_check.specs.Closed.{cause_at, first_from, fits_x, instruction_at, is_allowed, is_closed, is_open, is_shown, lets_through, line_at, ways_from}
 
@@ -104,10 +105,11 @@ module _ (rom : List ℕ) (bound : Bound) where
     pub leads : way.to ≡ Some to
     pub inside : (0x8000 ≤ to) × (to < 0x8800)
 
-  -- some line allows the instruction at an address
-  pub record MayBeAllowed (address : ℕ) : Type 0 where
+  -- some line that asks for no other X than this one allows the instruction at an address
+  pub record MayBeAllowed (address : ℕ) (x : Option ℕ) : Type 0 where
     pub line : Line
     pub of : line.address ≡ address
+    pub fits : fits_x line.x x ≡ true
     pub allowed : is_allowed bound line (instruction_at rom address) ≡ true
 
 -- What ways do at an address to which they lead: some of them leave this in X, where it is known; and some don't show a fact.
@@ -115,16 +117,16 @@ pub data Said : Type 0 where
   Gives : Option ℕ → Said
   Loses : Fact → Said
 
--- Ways of next addresses lead from the entry to an address. Each instruction on them is one that some line allows, and each way is open: no byte that closes
--- it is one that D is known to be. A fact is lost where nothing is known, at the entry; and where a way leads on which only facts show it that are lost where
+-- Ways of next addresses lead from the entry to an address. Each instruction on them is one that some line allows with what is in X there, and each way is open:
+-- no byte that closes it is one that D is known to be. A fact is lost where nothing is known, at the entry; and where a way leads on which only facts show it that are lost where
 -- the way begins. What is shown at the value 0 of the counter is shown at all of them.
 pub data Met (rom : List ℕ) (bound : Bound) : ℕ → Said → Type 0 where
   Enters : Met rom bound bound.entry (Gives None)
   Unknown : (fact : Fact) → (fact ≡ says.Any → ⊥) → Met rom bound bound.entry (Loses fact)
-  Goes : (address to : ℕ) (x : Option ℕ) (way : Way) → Met rom bound address (Gives x) → MayBeAllowed rom bound address → IsWay rom bound address way to
+  Goes : (address to : ℕ) (x : Option ℕ) (way : Way) → Met rom bound address (Gives x) → MayBeAllowed rom bound address x → IsWay rom bound address way to
       → ((byte : ℕ) → is_open way.when (Some byte) ≡ false → Met rom bound address (Loses (says.Is byte)))
       → Met rom bound to (Gives (x_after (instruction_at rom address).op.kind (instruction_at rom address).op.n x))
-  Passes : (address to : ℕ) (x : Option ℕ) (way : Way) (fact : Fact) → Met rom bound address (Gives x) → MayBeAllowed rom bound address
+  Passes : (address to : ℕ) (x : Option ℕ) (way : Way) (fact : Fact) → Met rom bound address (Gives x) → MayBeAllowed rom bound address x
       → IsWay rom bound address way to
       → ((byte : ℕ) → is_open way.when (Some byte) ≡ false → Met rom bound address (Loses (says.Is byte)))
       → ((held : Fact) → is_shown bound.k (instruction_at rom address) held way.when 0 fact ≡ true → Met rom bound address (Loses held))
@@ -154,7 +156,7 @@ asks_here kind named = false
 
 -- it assigns D, or else the counter
 abbrev pub ends_here : Kind → Bool → Bool
-ends_here kind named = assigns_d kind || assigns_named kind && named
+ends_here kind named = assigns_d kind || assigns_low kind && named
 
 -- the next address, where there is one and it lies in the ROM
 abbrev pub in_rom : Option ℕ → Option ℕ
@@ -250,8 +252,11 @@ module _ (rom : List ℕ) (bound : Bound) where
   abbrev pub IsPassed : ℕ → Way → Type 0
   IsPassed address way = (byte : ℕ) → is_open way.when (Some byte) ≡ false → IsLost address (says.Is byte)
 
-  -- an open way leads from one address to another
+  -- ways lead to an address, and an open one leads on from there to another address
   pub record LeadsOn (address to : ℕ) : Type 0 where
+    pub x : Option ℕ
+    pub led : LeadsTo address x
+    pub allowed : MayBeAllowed rom bound address x
     pub way : Way
     pub is : IsWay rom bound address way to
     pub passed : IsPassed address way
@@ -277,15 +282,21 @@ module _ (rom : List ℕ) (bound : Bound) where
   assigns_counter address =
       assigns_low (instruction_at rom address).op.kind && (instruction_at rom address).op.n == bound.k
 
-  -- it assigns the counter, and doesn't surely take one from it: it is no DEC, or nothing shows there that the counter isn't 0
+  -- It assigns the counter and may raise it: at a DEC nothing shows that the counter isn't 0; at a PLO nothing that D is the counter or 0, or 1 where the
+  -- counter isn't 0.
+  abbrev pub MayRaiseBy : Kind → ℕ → Type 0
+  MayRaiseBy Dec address = IsLost address says.NonZero
+  MayRaiseBy Plo address =
+      IsLost address says.Copy × IsLost address (says.Is 0) × (IsLost address (says.Is 1) ⊎ IsLost address says.NonZero)
+  MayRaiseBy kind address = Unit {0}
+
   pub record MayRaise (address : ℕ) : Type 0 where
     pub assigns : assigns_counter address ≡ true
-    pub how : (takes_one (instruction_at rom address).op.kind ≡ false) ⊎ IsLost address says.NonZero
+    pub how : MayRaiseBy (instruction_at rom address).op.kind address
 
   -- A turn leads from an address back to it by open ways, each of its addresses to the next one and the last to the first. It isn't counted: no instruction of it
   -- assigns the counter, or some instruction may raise it.
   pub record IsUncounted (address : ℕ) : Type 0 where
-    pub led : IsLed address
     pub turn : List ℕ
     pub some : 0 < length turn
     pub begins : slice_index turn 0 ≡ address
@@ -394,18 +405,18 @@ module _ (rom : List ℕ) (bound : Bound) where
   abbrev pub AreAllowed : List Line → Type 0
   AreAllowed lines = All (λ line. is_allowed bound line (instruction_at rom line.address) ≡ true) lines
 
-  -- No BASEs close the lines, though all have a STEP that pays a turn through all 2,048 addresses: at the address a BASE would have to pass the greatest that
-  -- lines with this STEP need.
-  pub record IsGrown (lines : List Line) (address : ℕ) : Type 0 where
+  -- no BASEs close the lines, though all have a STEP that pays a turn through all 2,048 addresses
+  pub record IsGrown (lines : List Line) : Type 0 where
     pub level : All (λ line. line.step ≡ level_step) lines
-    pub more : Any (λ line. (line.address ≡ address) × (most_straight < line.base)) lines
     pub stays_open : (base : ℕ → ℕ) → AreClosed (with_bases base lines) → ⊥
 
   -- ---- Most
 
-  -- The least BASE of an address passes what a certificate may say, among closed lines of exactly the addresses that are reached, with the least STEPs.
+  -- The least BASE of an address passes what a certificate may say, among closed lines of exactly the addresses that are reached, one for each, with the least
+  -- STEPs.
   pub record IsMost (address : ℕ) : Type 0 where
     pub lines : List Line
+    pub strict : AreStrict lines
     pub of_ways : AreOfWays rom bound lines
     pub least : AreLeast lines
     pub paced : ArePaced lines

@@ -111,7 +111,7 @@ fn sources_in(alloc: Global, graph: &Graph, counts: bool) -> Result<Sources, All
     Ok(Sources { sources })
 }
 
-// The turn that isn't counted whose place is the first: it takes nothing from the counter, or assigns it otherwise.
+// The turn that isn't counted whose place is the first: it takes nothing from the counter, or its line there may raise it.
 fn first_turn(
     alloc: Global,
     graph: &Graph,
@@ -123,7 +123,7 @@ fn first_turn(
             if unpaid.leads(place, place) {
                 return unpaid.turn_at(alloc, place);
             }
-            if node.assigns && reach.leads(place, place) {
+            if node.raises > 0 && reach.leads(place, place) {
                 return reach.turn_at(alloc, place);
             }
         }

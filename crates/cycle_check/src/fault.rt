@@ -74,11 +74,13 @@ impl From<AllocError> for CertFault {
 pub enum TimingCause {
     /// Ways lead to the address, and no line is allowed there with an X that all of them give.
     Opcode,
-    /// A turn leads from the address back to it that isn't counted: none of its instructions assigns the counter, or one of them may raise it.
+    /// A turn leads from the address back to it that isn't counted: none of its instructions assigns the counter, or one of them may raise it, for all that one
+    /// fact tells there.
     Loop,
     /// The least BASE at the address passes 1,000,000.
     Most,
-    /// Lines that say one fact each are no certificate: a turn at the address may put back into the counter what it takes, or no line is allowed there.
+    /// Lines that say one fact each are no certificate: a turn at the address may put back into the counter what it takes, or its line isn't allowed; or, said
+    /// of the entry, no BASEs close them, or there aren't two registers P and K.
     Fact,
 }
 

@@ -36,9 +36,10 @@ use vip_byte::MOST_TEXT;
 /// can be said: what D is, where D is asked for soon, or that the counter isn't 0. A loop has one STEP, the least that pays its turns; another line has the
 /// least BASE that STEPs of the lines behind it allow, and then the least STEP; and each BASE is the least with these STEPs.
 ///
-/// Where none is found the answer is an address whose opcode no line allows, or of a loop that isn't counted, or whose BASE passes 1,000,000; or where one
-/// fact a line doesn't suffice: the address of a turn that no BASEs and no STEP close for these lines, or of an opcode that isn't allowed at its line, or the
-/// entry, where P is K or one of them is no register's number. Memory may be wanting. For which routines one is found is not promised.
+/// Where none is found the answer is an address whose opcode no line allows with the X of all ways, or of a loop that isn't counted, or whose BASE passes
+/// 1,000,000; or where one fact a line doesn't suffice: the address of a turn that no BASEs and no STEP, one for its lines, close, or of an opcode that isn't
+/// allowed at its line, or the entry, where no BASEs close the lines with one great STEP, P is K, or one of them is no register's number. Memory may be
+/// wanting. For which routines one is found is not promised.
 pub fn find_timing(
     alloc: Global,
     rom: &[u8; 2048],
@@ -164,7 +165,7 @@ fn settle(
     }
     let mut level = leveled(alloc, lines.as_slice())?;
     match grow(forward.rom, &forward.bound, graph, &mut level) {
-        Some(address) => Err(obstacle(forward.rom, TimingCause::Fact, address)),
+        Some(_) => Err(obstacle(forward.rom, TimingCause::Fact, forward.bound.entry)),
         None => certify_paced(alloc, forward, graph, members, &ranks, level),
     }
 }

@@ -3,12 +3,11 @@
 //! That a certificate is right doesn't rest on what is found here. What is said where none is found does: so the contracts say of what is known that it is
 //! true of the source (`specs/Forward.antt`), and no more.
 
-ghost use Rattle.std.specs.Prelude.{◌≡◌, ◌+◌, ◌<◌, ◌≤◌, OnOk, IfOk, IfErr, IfSome, MatchOption, None, true};
-ghost use Rattle.cycle_check.specs.declared.grammar.Fact.TheVariants.{NonZero};
-ghost use Rattle.cycle_check.specs.Closed.{instruction_at, ways_from};
+ghost use Rattle.std.specs.Prelude.{◌≡◌, ℕ, ◌+◌, ◌<◌, ◌≤◌, OnOk, IfOk, IfErr, IfSome, MatchOption, None, Option, true};
+ghost use Rattle.cycle_check.specs.Closed.{fits_x, instruction_at, ways_from};
 ghost use Rattle.cycle_check.specs.Found.{IsTimingFault};
 ghost use Rattle.cycle_check.specs.Forward.{IsKnown, IsTrueOf, StaysTrue};
-ghost use Rattle.cycle_check.specs.Obstacles.{IsLed, IsLost, IsOneOf, MayBeAllowed, asks_d, asks_here, ends_here, in_rom, only_next};
+ghost use Rattle.cycle_check.specs.Obstacles.{IsLost, IsOneOf, MayBeAllowed, asks_d, asks_here, ends_here, in_rom, only_next};
 
 use crate::closed::{
     Instruction, instruction_at, is_allowed, is_open, is_shown, lets_through, ways_from,
@@ -16,7 +15,8 @@ use crate::closed::{
 use crate::fault::{TimingCause, TimingFault, obstacle};
 use crate::grammar::{Bound, Fact, Line};
 use crate::known::Knowledge;
-use crate::table::{Way, Ways, assigns_d, assigns_named};
+use crate::table::{Way, Ways, assigns_d};
+use crate::turn::assigns_low;
 use arrayvec::ArrayVec;
 use std::alloc::Global;
 use vip_isa::Kind;
@@ -88,11 +88,11 @@ fn asks_here(kind: Kind, named: bool) -> bool
     }
 }
 
-// It assigns D, or else the counter register.
+// It assigns D, or else the low byte of the counter register.
 fn ends_here(kind: Kind, named: bool) -> bool
     ensures { result ≡ ends_here kind named }
 {
-    assigns_d(kind) || (assigns_named(kind) && named)
+    assigns_d(kind) || (assigns_low(kind) && named)
 }
 
 // The next address of the ROM, where there is only one.
@@ -224,7 +224,7 @@ impl Forward<'_> {
     fn go(&mut self, address: u16, known: &Knowledge, instruction: &Instruction, way: Way)
         requires true_of { IsTrueOf self.now }
         requires known { IsKnown self.now.rom.now self.now.bound address known.now }
-        requires allowed { MayBeAllowed self.now.rom.now self.now.bound address }
+        requires allowed { (x : Option ℕ) → fits_x known.now.x x ≡ true → MayBeAllowed self.now.rom.now self.now.bound address x }
         requires instruction { instruction.now ≡ instruction_at self.now.rom.now address }
         requires way { IsOneOf self.now.rom.now self.now.bound address way }
         ensures { StaysTrue self.old self.new }
@@ -278,8 +278,8 @@ impl Forward<'_> {
         }
     }
 
-    // The line of an address, which doesn't say yet what is left.
-    fn line_with(&self, address: u16, known: &Knowledge) -> Line
+    /// The line of an address, which doesn't say yet what is left.
+    pub fn line_with(&self, address: u16, known: &Knowledge) -> Line
         ensures address { result.address ≡ address }
         ensures x { result.x ≡ known.now.x }
     {
@@ -454,22 +454,16 @@ impl Forward<'_> {
         }
     }
 
-    /// Whether an address was met.
-    pub fn is_led(&self, address: u16) -> bool
+    /// Whether an address was met, and a fact is lost there.
+    pub fn is_lost(&self, address: u16, fact: Fact) -> bool
         requires { IsTrueOf self.now }
-        ensures { result ≡ true → IsLed self.now.rom.now self.now.bound address }
+        ensures { result ≡ true → IsLost self.now.rom.now self.now.bound address fact }
     {
-        self.known_at(u32::from(address)).is_some()
-    }
-
-    /// Whether an address was met, and that the counter isn't 0 is lost there.
-    pub fn is_some_lost(&self, address: u16) -> bool
-        requires { IsTrueOf self.now }
-        ensures { result ≡ true → IsLost self.now.rom.now self.now.bound address NonZero }
-    {
-        match self.known_at(u32::from(address)) {
-            Some(known) => !known.some,
-            None => false,
+        match (self.known_at(u32::from(address)), fact) {
+            (Some(known), Fact::Copy) => !known.copy,
+            (Some(known), Fact::NonZero) => !known.some,
+            (Some(known), Fact::Is(byte)) => known.byte != Some(byte),
+            (Some(_), Fact::Any) | (None, _) => false,
         }
     }
 }

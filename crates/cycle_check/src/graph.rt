@@ -5,7 +5,7 @@ use crate::drawn::drawn_at;
 use crate::forward::{ROM_SIZE, end_of};
 use crate::grammar::{Bound, Line};
 use crate::table::{Way, Ways};
-use crate::turn::{assigns_low, raises_counter, takes_counter};
+use crate::turn::{raises_counter, takes_counter};
 use arrayvec::ArrayVec;
 use std::alloc::{AllocError, Global};
 
@@ -22,8 +22,6 @@ pub struct Node {
     pub takes: bool,
     /// How much more the counter may be behind it.
     pub raises: u8,
-    /// Whether it may give the counter another value than one less.
-    pub assigns: bool,
 }
 
 /// The lines of a routine by their place in the ROM.
@@ -54,16 +52,12 @@ pub fn graph_of(
 
 fn node_of(rom: &[u8], bound: &Bound, line: &Line) -> Node {
     let instruction = instruction_at(rom, line.address);
-    let op = instruction.op;
-    let assigns = assigns_low(op.kind) && op.n == bound.k;
-    let takes = takes_counter(bound, line, &instruction);
     Node {
         line: *line,
         instruction,
         ways: ways_from(bound, line.address, &instruction),
-        takes,
+        takes: takes_counter(bound, line, &instruction),
         raises: raises_counter(bound, line, &instruction),
-        assigns: assigns && !takes,
     }
 }
 

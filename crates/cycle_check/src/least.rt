@@ -155,7 +155,7 @@ pub fn grow(rom: &[u8], bound: &Bound, graph: &mut Graph, lines: &mut Vec<Line>)
     ensures made { AreMade rom.now bound.now lines.new.items }
     ensures level { All (λ line. line.step ≡ level_step) lines.new.items }
     ensures grown { MatchOption result (AreClosed rom.now bound.now lines.new.items × AreWithin lines.new.items)
-        (λ address. IsGrown rom.now bound.now lines.new.items address) }
+        (λ address. IsGrown rom.now bound.now lines.new.items) }
 {
     rise(rom, bound, graph, lines)
 }

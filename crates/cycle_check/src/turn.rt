@@ -6,7 +6,9 @@ ghost use Rattle.cycle_check.specs.Forward.{IsTrueOf};
 ghost use Rattle.cycle_check.specs.Obstacles.{IsShort, IsUncounted, IsUnpaid, LeadsBy, LeadsOn, MayRaise, assigns_counter, assigns_low, says_some, raised_by, raises_at, raises_counter, takes_at, takes_counter, takes_one, turn_cycles, turn_raises, turn_takes};
 ghost use Rattle.cycle_check.specs.Reading.{AreRising};
 
-use crate::closed::{Instruction, instruction_at, is_open, lets_through, line_at, ways_from};
+use crate::closed::{
+    Instruction, instruction_at, is_allowed, is_open, lets_through, line_at, ways_from,
+};
 use crate::forward::Forward;
 use crate::grammar::{Bound, Fact, Line};
 use crate::table::Way;
@@ -191,7 +193,11 @@ impl Forward<'_> {
         let Some(known) = self.known_at(u32::from(address)) else {
             return false;
         };
-        let ways = ways_from(&self.bound, address, &instruction_at(self.rom, address));
+        let instruction = instruction_at(self.rom, address);
+        if !is_allowed(&self.bound, &self.line_with(address, &known), &instruction) {
+            return false;
+        }
+        let ways = ways_from(&self.bound, address, &instruction);
         if is_open(ways.first.when, known.byte) && goes_to(ways.first, to) {
             return true;
         }
@@ -228,8 +234,17 @@ impl Forward<'_> {
         requires { IsTrueOf self.now }
         ensures { result ≡ true → MayRaise self.now.rom.now self.now.bound address }
     {
-        let kind = instruction_at(self.rom, address).op.kind;
-        self.assigns_counter(address) && (!takes_one(kind) || self.is_some_lost(address))
+        self.assigns_counter(address)
+            && match instruction_at(self.rom, address).op.kind {
+                Kind::Dec => self.is_lost(address, Fact::NonZero),
+                Kind::Plo => {
+                    self.is_lost(address, Fact::Copy)
+                        && self.is_lost(address, Fact::Is(0))
+                        && (self.is_lost(address, Fact::Is(1))
+                            || self.is_lost(address, Fact::NonZero))
+                }
+                _ => true,
+            }
     }
 
     // Whether no address of a turn assigns the counter.
@@ -264,10 +279,8 @@ impl Forward<'_> {
         ensures { result ≡ true → IsUncounted self.now.rom.now self.now.bound (slice_index turn.now 0) }
     {
         match turn {
-            [first, ..] => {
-                self.is_led(*first)
-                    && self.goes_round(turn)
-                    && (self.keeps_counter(turn) || self.raises_counter(turn))
+            [_, ..] => {
+                self.goes_round(turn) && (self.keeps_counter(turn) || self.raises_counter(turn))
             }
             [] => false,
         }

@@ -9,8 +9,8 @@ returns-in-Some-clause-fault c =
     rw c.obstacle.ensures (
       record {
         lines = c.args.lines.now;
+        strict = c.requires.made.strict;
         of_ways = c.requires.made.of_ways;
-        least = c.requires.made.least;
         against = Barred c.in-Some.address c.in-Some.ensures;
       },
       refl,
@@ -21,8 +21,8 @@ returns-then-p-k-clause-fault c =
     rw c.obstacle-then-p-k.ensures (
       record {
         lines = c.args.lines.now;
+        strict = c.requires.made.strict;
         of_ways = c.requires.made.of_ways;
-        least = c.requires.made.least;
         against = elim c.then-p-k.branch [
           | then-p-k-via-then-p-k w ↦ Same w.if-p-k.true
           | then-p-k-via-else-p-k+then-p-gt15 w ↦ Registers (inl w.if-p-gt15.true)

@@ -7,6 +7,7 @@ returns-then-is_over c =
     let over = c.is_over.ensures.over c.if-is_over.true in
     record {
       lines = c.args.lines.now;
+      strict = c.requires.made.strict;
       of_ways = c.requires.made.of_ways;
       least = c.requires.made.least;
       paced = c.requires.paced;

@@ -7,8 +7,8 @@ returns-in-len1-up c =
     rw c.obstacle.ensures (
       record {
         lines = c.args.lines.now;
+        strict = c.requires.made.strict;
         of_ways = c.requires.made.of_ways;
-        least = c.requires.made.least;
         against = Turn (slice_index c.args.turn.now 0) (c.is_unpaid.ensures c.if-is_unpaid.true);
       },
       refl,

@@ -17,9 +17,9 @@ returns-in-Some-clause-fault c =
     rw c.obstacle.ensures (
       record {
         lines = c.grow.new.lines.items;
+        strict = c.grow.ensures.made.strict;
         of_ways = c.grow.ensures.made.of_ways;
-        least = c.grow.ensures.made.least;
-        against = Grows c.in-Some.address c.in-Some.ensures.grown;
+        against = Grows c.in-Some.ensures.grown;
       },
       refl,
     )

@@ -14,9 +14,10 @@ returns-then-not-is_allowed-clause-fault c =
 -- ---- the first way
 
 pub go-requires-clause-allowed : goal.go-requires-clause-allowed
-go-requires-clause-allowed c = record {
+go-requires-clause-allowed c x fits = record {
   line = c.line_with-line.result;
   of = c.line_with-line.ensures.address;
+  fits = rw c.line_with-line.ensures.x fits;
   allowed = rw (← c.instruction_at-instruction.ensures) (sym c.is_allowed.ensures ∙ c.if-not-is_allowed.false);
 }
 
@@ -29,10 +30,11 @@ pub go-requires-in-Some-clause-known : goal.go-requires-in-Some-clause-known
 go-requires-in-Some-clause-known c = rw (c.go.ensures.rom, c.go.ensures.bound) c.requires.known
 
 pub go-requires-in-Some-clause-allowed : goal.go-requires-in-Some-clause-allowed
-go-requires-in-Some-clause-allowed c =
+go-requires-in-Some-clause-allowed c x fits =
     rw (c.go.ensures.rom, c.go.ensures.bound) (record {
       line = c.line_with-line.result;
       of = c.line_with-line.ensures.address;
+      fits = rw c.line_with-line.ensures.x fits;
       allowed = rw (← c.instruction_at-instruction.ensures) (sym c.is_allowed.ensures ∙ c.if-not-is_allowed.false);
     })
 
