@@ -197,18 +197,18 @@ fn between<'a>(
 
 // What a shape finds in a text.
 #[tactic(auto, unfolding(crate::specs::Remedies::found))]
-fn found(isa: Isa, shape: Shape, text: &[u8]) -> Option<&[u8]>
-    ensures { option_map (λ part. part.now) result ≡ found isa (shape_of shape) text.now }
+fn found<'a>(isa: Isa, shape: &Shape, text: &'a [u8]) -> Option<&'a [u8]>
+    ensures { option_map (λ part. part.now) result ≡ found isa (shape_of shape.now) text.now }
 {
     match shape {
         Shape::Words(words) => some_if(is_one_of(words, text), text),
-        Shape::Between(opening, class, closing) => between(isa, opening, class, closing, text),
+        Shape::Between(opening, class, closing) => between(isa, opening, *class, closing, text),
         Shape::Holds(piece) => some_if(holds(piece, text), text),
     }
 }
 
-fn has(isa: Isa, shape: Shape, text: &[u8]) -> bool
-    ensures { result ≡ is_some (found isa (shape_of shape) text.now) }
+fn has(isa: Isa, shape: &Shape, text: &[u8]) -> bool
+    ensures { result ≡ is_some (found isa (shape_of shape.now) text.now) }
 {
     found(isa, shape, text).is_some()
 }
@@ -223,10 +223,10 @@ fn is_after(words: &[&str], word: &[u8]) -> bool
 }
 
 #[tactic(auto, unfolding(crate::specs::Remedies::fits))]
-fn fits(isa: Isa, word: &[u8], first: &[u8], text: &[u8], row: Row) -> bool
-    ensures { result ≡ fits isa word.now first.now text.now (row_of row) }
+fn fits(isa: Isa, word: &[u8], first: &[u8], text: &[u8], row: &Row) -> bool
+    ensures { result ≡ fits isa word.now first.now text.now (row_of row.now) }
 {
-    is_after(words_of(row.after), word) && begins(row.behind, first) && has(isa, row.shape, text)
+    is_after(words_of(row.after), word) && begins(row.behind, first) && has(isa, &row.shape, text)
 }
 
 // The first of some habits that fits.
@@ -234,7 +234,7 @@ fn first_that_fits(isa: Isa, word: &[u8], first: &[u8], text: &[u8], rows: &[Row
     ensures { option_map row_of result ≡ find (fits isa word.now first.now text.now) (map row_of rows.now) }
 {
     for row in rows {
-        if fits(isa, word, first, text, *row) {
+        if fits(isa, word, first, text, row) {
             return Some(*row);
         }
     }
@@ -338,7 +338,7 @@ fn said(
     ensures { IfOk result (λ remedy. remedy.items ≡ said isa word.now first.now text.now (row_of row)) }
 {
     let rest = behind_of(row.behind, first);
-    let middle = or_empty(found(isa, row.shape, text));
+    let middle = or_empty(found(isa, &row.shape, text));
     expand(alloc, word, rest, middle, row.says.as_bytes())
 }
 
