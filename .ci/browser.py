@@ -4,115 +4,17 @@
 """
 
 import gzip
-import json
 import os
 import re
-import shutil
 import subprocess
 import sys
-import tempfile
 import time
+
+from chromium import Browser
 
 FRAME, BEGIN, END = 3668, 1092, 2912
 PICTURE = len(b"P4\n64 128\n") + 1024
 SECONDS = 3
-OPTIONS = "--headless --no-sandbox --disable-gpu --disable-dev-shm-usage --no-first-run --window-size=1440,900 --remote-debugging-pipe"
-
-
-class Browser:
-    """A browser with one page. Messages go by the file descriptors 3 and 4, as JSON that ends with a byte 00."""
-
-    def __init__(self, program):
-        self.profile = tempfile.mkdtemp()
-        theirs, self.output = os.pipe()
-        self.input, ours = os.pipe()
-        command = f'exec "$0" {OPTIONS} --user-data-dir="$1" about:blank 3<&{theirs} 4>&{ours} 2> /dev/null'
-        self.process = subprocess.Popen(["bash", "-c", command, program, self.profile], pass_fds=(theirs, ours))
-        os.close(theirs)
-        os.close(ours)
-        self.number, self.rest, self.session, self.faults, self.loaded = 0, b"", None, [], []
-        target = self.call("Target.createTarget", url="about:blank")["targetId"]
-        self.session = self.call("Target.attachToTarget", targetId=target, flatten=True)["sessionId"]
-        for domain in ("Page", "Runtime", "Log", "Network", "DOM", "Accessibility"):
-            self.call(domain + ".enable")
-
-    def message(self):
-        while b"\0" not in self.rest:
-            more = os.read(self.input, 1 << 20)
-            if not more:
-                raise RuntimeError("the browser has ended")
-            self.rest += more
-        one, self.rest = self.rest.split(b"\0", 1)
-        return json.loads(one)
-
-    def call(self, method, **params):
-        """Sends a command and waits for its answer. What the page says meanwhile of faults and of what it loads is kept."""
-        self.number += 1
-        message = {"id": self.number, "method": method, "params": params}
-        if self.session:
-            message["sessionId"] = self.session
-        os.write(self.output, json.dumps(message).encode() + b"\0")
-        while True:
-            answer = self.message()
-            if answer.get("id") == self.number:
-                if "error" in answer:
-                    raise RuntimeError(f"{method}: {answer['error']}")
-                return answer["result"]
-            params = answer.get("params", {})
-            if answer.get("method") == "Runtime.exceptionThrown" or params.get("entry", {}).get("level") == "error":
-                self.faults.append(json.dumps(params)[:400])
-            if answer.get("method") == "Network.requestWillBeSent":
-                self.loaded.append(params["request"]["url"])
-
-    def ask(self, code):
-        answer = self.call("Runtime.evaluate", expression=code, awaitPromise=True, returnByValue=True)
-        if "exceptionDetails" in answer:
-            raise RuntimeError(json.dumps(answer["exceptionDetails"])[:400])
-        return answer["result"].get("value")
-
-    def open(self, name, place=""):
-        """Opens a page and answers in how many seconds it was usable."""
-        self.call("Page.navigate", url="about:blank")
-        self.call("Page.navigate", url="file://" + os.path.abspath(name) + place)
-        until = time.monotonic() + 60
-        while not self.ask("performance.getEntriesByName('usable').length"):
-            if time.monotonic() > until:
-                raise RuntimeError(f"{name} isn't usable after a minute")
-            time.sleep(0.02)
-        return self.ask("performance.getEntriesByName('usable')[0].startTime") / 1000
-
-    def press(self, key, times=1):
-        for _ in range(times):
-            for kind in ("keyDown", "keyUp"):
-                self.call("Input.dispatchKeyEvent", type=kind, key=key, code=key, windowsVirtualKeyCode=KEYS[key], text="\r" if key == "Enter" else "")
-
-    def write_in(self, place, text):
-        self.ask(f"document.getElementById('{place}').focus()")
-        self.call("Input.insertText", text=text)
-        self.press("Enter")
-
-    def give(self, names, until):
-        """Gives the page these files, as its button does, and waits until something of it is so."""
-        self.ask("document.getElementById('fault').textContent = ''")
-        root = self.call("DOM.getDocument")["root"]["nodeId"]
-        node = self.call("DOM.querySelector", nodeId=root, selector="#files")["nodeId"]
-        self.call("DOM.setFileInputFiles", nodeId=node, files=[os.path.abspath(name) for name in names])
-        for _ in range(200):
-            if self.ask(until):
-                break
-            time.sleep(0.1)
-
-    def end(self):
-        self.session = None
-        try:
-            self.call("Browser.close")
-        except (RuntimeError, OSError):
-            pass
-        self.process.wait()
-        shutil.rmtree(self.profile, ignore_errors=True)
-
-
-KEYS = {"Enter": 13, " ": 32, "End": 35, "ArrowDown": 40, "ArrowUp": 38, "ArrowLeft": 37, "ArrowRight": 39}
 
 # What the page shows: the line and its number, that of the source, the fields that are marked, the frame, and the dots, as they are drawn and as text.
 SHOWN = r"""(() => {
@@ -367,10 +269,10 @@ def bytes_of(name):
 
 
 def look_at_state(browser):
-    """A run from a saved state begins in the frame of its first picture, also where the page is given the files alone."""
+    """A run from a saved state begins in the frame of its first picture, also if the page is given the files alone."""
     first, film = (int.from_bytes(bytes_of("pen.state")[6:14], "big") + FRAME - END) // FRAME, bytes_of("state.pbm")
     for how in ("a page", "files"):
-        browser.open("state.html" if how == "a page" else "share/view.html")
+        browser.open("state.html" if how == "a page" else "view.html")
         if how == "files":
             browser.give(["state.trace", "state.pbm"], "!document.getElementById('viewer').hidden")
         browser.ask("document.getElementById('first-frame').click()")
@@ -405,7 +307,7 @@ def refuse_files(browser):
             file.write(content)
     browser.open("cut.html")
     check("what is left of a page is shown", "This page is cut off" in browser.ask("document.getElementById('fault').textContent"))
-    browser.open("share/view.html")
+    browser.open("view.html")
     for names, words in (
         (["column.trace"], "its line 100 is"), (["cut.trace"], f"its line {len(text):,} is cut off"), (["order.trace"], "line 2 has an earlier cycle"),
         (["mixed.trace"], "its line 10 is"), (["label.trace"], "its last line is a label"), (["digits.trace"], "its line 1 is"), (["return.trace"], "\\x0D”"),
@@ -423,7 +325,7 @@ def refuse_files(browser):
 
 def refuse_numbers(browser):
     """A frame that is none is refused in words, and so is a place; a key script alone says what is missing; and a narrow page isn't wider than its window."""
-    browser.open("share/view.html")
+    browser.open("view.html")
     browser.give(["examples/pen.keys"], "document.getElementById('ending').textContent")
     said = browser.ask("document.getElementById('ending').textContent")
     check(f"a key script alone: the page says: {said}", "are still missing" in said and browser.ask("document.getElementById('viewer').hidden"))
@@ -434,7 +336,7 @@ def refuse_numbers(browser):
         is_refused, begin = bool(browser.ask("document.getElementById('fault').textContent")), int(browser.ask("document.getElementById('frame').min"))
         check(f"the first picture of frame '{number}' begins at {begin}", begin == least and is_refused == (number != "7"))
     browser.call("Emulation.setDeviceMetricsOverride", width=320, height=640, deviceScaleFactor=1, mobile=False)
-    for name in ("share/view.html", "pen.html"):
+    for name in ("view.html", "pen.html"):
         browser.open(name)
         width = browser.ask("document.documentElement.scrollWidth")
         check(f"{name} is {width} points wide in a window of 320", width <= 320)
@@ -474,7 +376,7 @@ def have_names(browser):
         role = node.get("role", {}).get("value")
         if not node.get("ignored") and role in ("button", "slider", "textbox", "combobox", "listbox", "image", "link", "spinbutton"):
             check(f"a {role} has no name", node.get("name", {}).get("value"))
-    others = [url for url in browser.loaded if not url.startswith("about:") and not url.endswith("/pen.html")]
+    others = [url for url in browser.loaded if not url.startswith(("about:", "data:")) and not url.endswith("/pen.html")]
     check(f"the page loads {others}", not others)
 
 

@@ -1,189 +1,18 @@
-<!DOCTYPE html>
-<!--
-  A run to look at: the lines of `vip trace`, the pictures of `vip play`, the keys of a key script and, of a source, the listing of `vip list`. `./view` puts
-  them into this page; opened by itself it takes them as files. It reads what the program wrote (docs/FORMATS.md) and has no rule of CHIP-8, of the processor
-  or of the board but when a picture comes, that of frame m from cycle 3668 m + 1092 to 3668 m + 2912, and which instructions store a byte where. It loads
-  nothing.
--->
-<html lang="en">
-<head>
-<meta charset="utf-8">
-<meta name="viewport" content="width=device-width, initial-scale=1">
-<meta http-equiv="Content-Security-Policy" content="default-src 'none'; script-src 'unsafe-inline'; style-src 'unsafe-inline'">
-<title>A run of vip</title>
-<style>
-  :root {
-    color-scheme: light dark; background: var(--page); color: var(--text);
-    --page: #fff; --text: #15181e; --quiet: #4b5363; --edge: #7d8698; --panel: #f0f2f6; --line: #dfe3ea;
-    --here: #cfe2ff; --frame: #2f6bbd; --mark: #ffe38f; --least: #2f6bbd; --most: #a9c6ee; --point: #15181e; --fault: #a4161a;
-  }
-  @media (prefers-color-scheme: dark) {
-    :root {
-      --page: #14161b; --text: #e9ecf2; --quiet: #aeb6c4; --edge: #77808f; --panel: #1f232b; --line: #333945;
-      --here: #1d3f70; --frame: #7fb2ff; --mark: #6a5200; --least: #7fb2ff; --most: #33547f; --point: #e9ecf2; --fault: #ff9a9a;
-    }
-  }
-  * { box-sizing: border-box; }
-  [hidden] { display: none !important; }
-  body { margin: 0 auto; padding: 0.8rem 1.2rem; max-width: 100rem; font: 0.95rem/1.4 system-ui, sans-serif; overflow-wrap: anywhere; }
-  h1, h2, p { margin: 0.3rem 0; font-size: inherit; }
-  header { display: flex; flex-wrap: wrap; gap: 0 1.5rem; align-items: baseline; }
-  code, pre, td, ol, kbd, output { font-family: ui-monospace, "DejaVu Sans Mono", Consolas, monospace; font-size: 0.84rem; }
-  .row > *, #files { max-width: 100%; }
-  button, input, select { font: inherit; padding: 0.1rem 0.6rem; border: 1px solid var(--edge); border-radius: 4px; background: var(--panel); color: inherit; }
-  button:hover { background: var(--here); }
-  :focus-visible { outline: 2px solid var(--edge); outline-offset: 1px; }
-  .quiet, small { color: var(--quiet); font-weight: 400; }
-  .row { display: flex; flex-wrap: wrap; gap: 0.35rem; align-items: center; margin: 0.35rem 0; }
-  #fault:not(:empty) { padding: 0.5rem 0.8rem; border: 2px solid var(--fault); color: var(--fault); font-weight: 600; }
-  main { display: grid; gap: 0.6rem 1.6rem; grid-template-columns: minmax(0, 1fr); }
-  @media (min-width: 75rem) { main { grid-template-columns: 33rem minmax(0, 1fr); } }
+/** The page of a run: its lines, its pictures, its keys, and its source. */
 
-  #picture { display: block; image-rendering: pixelated; background: #000; outline: 1px solid var(--edge); }
-  #picture.before { opacity: 0.45; }
-  #around { display: grid; grid-template-columns: minmax(0, 1fr) auto; gap: 1rem; margin: 0.4rem 0; }
-  #keypad { display: grid; grid-template-columns: repeat(4, 1.8rem); gap: 2px; text-align: center; font-family: ui-monospace, monospace; }
-  #keypad span { border: 1px solid var(--edge); border-radius: 4px; line-height: 1.5rem; }
-  #keypad .down { background: var(--text); color: var(--page); font-weight: 700; }
-  #as-text { line-height: 1; overflow-x: auto; margin: 0.3rem 0; font-size: 0.6rem; }
+import { BEGIN, BYTES, END, FRAME, KEYS, LINES, MOST, HEAD, PICTURE, download, fromBase64, get, group, hex, make, many, pipe, quote, readKeys, refuse, setSlider } from '../common/base.js';
+import { dotsAsText, drawDots, fit } from '../common/picture.js';
 
-  #plot { display: block; width: calc(100% - 16px); height: 3.4rem; margin: 0 8px; background: var(--panel); fill: var(--most); cursor: pointer; }
-  #plot path + path { fill: var(--least); }
-  #plot line { stroke: var(--point); stroke-width: 2; vector-effect: non-scaling-stroke; }
-  .slider { display: grid; grid-template-columns: auto 1fr auto; gap: 0 0.8rem; align-items: baseline; margin-top: 0.4rem; }
-  .slider input { grid-column: 1 / 4; width: 100%; margin: 0; padding: 0; accent-color: var(--frame); }
-  #said { min-height: 2.8em; }
-
-  .tables { display: flex; flex-wrap: wrap; gap: 0.5rem 1.2rem; overflow-x: auto; min-height: 12.4rem; align-content: flex-start; align-items: flex-start; }
-  table { border-collapse: collapse; }
-  caption, h2 { text-align: left; font-weight: 600; white-space: nowrap; }
-  th, td { border: 1px solid var(--line); padding: 0.1rem 0.4rem; text-align: center; font-weight: 400; white-space: pre; }
-  th { background: var(--panel); color: var(--quiet); font-size: 0.8rem; }
-  th small { display: block; }
-  td.changed { background: var(--mark); font-weight: 700; outline: 2px solid var(--text); outline-offset: -2px; }
-  ol { margin: 0; padding: 0; list-style: none; border: 1px solid var(--edge); overflow: auto; cursor: default; }
-  ol, ol li > * { font-size: 0.75rem; line-height: 1.2rem; }
-  ol:focus-visible { outline: none; border-color: var(--text); }
-  li { white-space: pre; padding: 0 0.6rem 0 0; border-left: 4px solid transparent; width: max-content; min-width: 100%; }
-  li::before { content: attr(data-number); display: inline-block; width: 8ch; margin-right: 1.5ch; text-align: right; color: var(--quiet); }
-  #lines .label { font-weight: 700; }
-  #lines .words, #lines .source { display: inline-block; margin-left: 2ch; min-width: 16ch; }
-  #lines .source { min-width: 30ch; }
-  #source { max-height: 18.2rem; }
-  #source li::before { width: 5ch; }
-  #source [data-runs] { cursor: pointer; }
-  #source .never { color: var(--quiet); }
-  #source [aria-current=true] { background: var(--here); color: var(--text); font-weight: 700; border-left-color: var(--frame); }
-  #lines .same { border-left-color: var(--frame); }
-  #lines .opens { box-shadow: inset 0 1px var(--edge); }
-  #lines [aria-selected=true] { background: var(--here); font-weight: 700; }
-  @media (min-width: 115rem) { #panes { display: grid; grid-template-columns: minmax(0, 1fr) minmax(0, 1fr); gap: 0 1.6rem; } #source { max-height: 40rem; } }
-  @media (max-width: 40rem) {
-    body { padding: 0.5rem; }
-    li { white-space: pre-wrap; width: auto; }
-    li::before { width: 5ch; }
-    h2 { white-space: normal; }
-    #lines .words, #lines .source { display: inline; }
-    .tables { min-height: 0; }
-  }
-  .over { outline: 4px dashed var(--frame); outline-offset: -6px; }
-</style>
-</head>
-<body>
-<header>
-  <h1>A run of vip</h1><noscript>This page needs JavaScript.</noscript>
-  <code id="words"></code><span id="ending"></span>
-</header>
-<p id="loading" role="status">loading …</p>
-<p id="fault" role="alert"></p>
-<main id="viewer" hidden>
-  <section aria-label="Picture">
-    <div class="tables" id="left"></div>
-    <canvas id="picture" width="64" height="128" role="img"></canvas>
-    <div id="around">
-      <div>
-        <p id="frame-is"></p><p id="line-is"></p><p class="quiet" id="remark"></p>
-        <details id="text"><summary>The picture as text</summary><pre id="as-text"></pre></details>
-      </div>
-      <div><div id="keypad" role="img"></div><p class="quiet" id="keys-are"></p></div>
-    </div>
-    <svg id="plot" preserveAspectRatio="none" role="img"><path/><path/><line y1="0" y2="100"/></svg><p class="quiet" id="plot-is"></p>
-    <div class="slider display"><label for="frame">Frame</label><small>← → and Space</small><output id="frame-of"></output><input type="range" id="frame"></div>
-    <div class="row display">
-      <button id="first-frame" aria-label="First frame">First</button><button id="frame-back" aria-label="Frame back">Back</button>
-      <button id="play">Play</button><button id="frame-on" aria-label="Frame on">On</button><button id="last-frame" aria-label="Last frame">Last</button>
-      <label>at <select id="speed"><option>60</option><option>30</option><option>10</option><option>3</option></select> frames a second</label>
-    </div>
-    <div class="slider"><label for="line">Line</label><small>↑ ↓, Shift: same pc</small><output id="line-of"></output><input type="range" id="line"></div>
-    <div class="row">
-      <button id="first-line" aria-label="First line">First</button><button id="line-back" aria-label="Line back">Back</button>
-      <button id="line-on" aria-label="Line on">On</button><button id="last-line" aria-label="Last line">Last</button> <a id="link" href="#">Link to here</a>
-    </div>
-    <form class="row">
-      <label>Cycle <input id="cycle" size="13" inputmode="numeric" required pattern="[0-9][0-9 ,]*" title="a decimal number" autocomplete="off"></label>
-      <button id="to-cycle">Go there</button></form>
-    <form class="row">
-      <label>pc <input id="pc" size="12" required title="up to four hexadecimal digits, or a name of the source" autocomplete="off" list="names"></label>
-      <datalist id="names"></datalist>
-      <button id="pc-on">Next</button><button id="pc-back">Previous</button><button id="same-on" type="button">Next with this line’s pc</button></form>
-    <p role="status" id="said"></p>
-  </section>
-  <section aria-label="Lines">
-    <div class="tables" id="right"><table id="line-table"></table><table id="variables-table"></table><table id="memory-table"></table></div>
-    <div id="panes">
-      <div id="source-pane">
-        <h2 id="source-head">Source <small>A click on a line goes to the next time that it runs</small></h2>
-        <ol id="source" aria-labelledby="source-head" tabindex="0"></ol>
-      </div>
-      <div>
-        <h2 id="lines-head">Lines <small class="display">Those with a bar make the picture</small></h2>
-        <ol id="lines" role="listbox" tabindex="0" aria-labelledby="lines-head"></ol>
-      </div>
-    </div>
-  </section>
-</main>
-<section aria-label="Files">
-  <p id="asks">Drop here what <code>vip trace GAME CYCLES --at</code> and <code>vip play GAME CYCLES</code> have written, and the key script, or take them as
-    files. Of a program for the processor, with <code>--rom</code> or <code>--ram</code>, the lines are without <code>--at</code>. What <code>vip list
-    SOURCE</code> has written is the source.</p>
-  <div class="row">
-    <label>Files <input type="file" id="files" multiple></label>
-    <label id="begins" hidden>The first picture is of frame <input id="first" inputmode="numeric" size="9" value="0" autocomplete="off"></label>
-    <button id="save-trace" hidden>Save trace</button><button id="save-film" hidden>Save film</button><button id="save-keys" hidden>Save keys</button>
-  </div>
-  <details>
-    <summary>Keys, and what is shown</summary>
-    <p><kbd>←</kbd> <kbd>→</kbd>: a frame back, on. <kbd>Space</kbd>: play, pause. <kbd>↑</kbd> <kbd>↓</kbd>: a line back, on; with <kbd>Shift</kbd> the
-      previous, the next one with the same pc. On the lines <kbd>Home</kbd>, <kbd>End</kbd>, <kbd>Page ↑</kbd>, <kbd>Page ↓</kbd> too.</p>
-    <p>A line shows what stands before its instruction; marked is what differs from the line before, so what that one’s instruction or a tick did. A line
-      belongs to the first picture that is finished behind it; those of one picture have a bar at their left. A frame is shown with the last line up to the
-      first cycle of its picture. The plot shows the dispatch points of each frame, or the instructions; where several share a bar, its strong part is the
-      least, its faint one the most.</p>
-    <p>A line of the source is marked where it gave the bytes of the instruction, unchanged. Memory by name has the bytes that DS names, and those of EQU’s
-      names to which a register points at some time: as the source gave them, then as instructions stored or found them.</p>
-  </details>
-</section>
-<script>
-'use strict';
-
-// In machine cycles a frame, the places of its picture's first cycle and of its end, and the most that a key script has.
-const FRAME = 3668, BEGIN = 1092, END = 2912, MOST = 4000000000;
-// A picture: its head, and 128 lines of 8 bytes, each put out in a raster line of 14 cycles, from line 80 of its frame on.
-const HEAD = 'P4\n64 128\n', LINES = 128, BYTES = 8 * LINES, PICTURE = HEAD.length + BYTES, RASTER = 14, WINDOW = 80;
+// The machine cycles of a raster line, and the number of the first one that is shown.
+const RASTER = 14, WINDOW = 80;
 // The last frame that a run of so many cycles has.
 const LAST = Math.floor(MOST / FRAME);
-// How many lines are listed, how many columns the plot has at most, and the keys as they lie on the keypad.
-const ROWS = 27, ROWS_BESIDE = 15, COLUMNS = 1000, BYTES_SHOWN = 8, KEYS = '123C456D789EA0BF';
+// How many lines are listed, beside a source too, and how many columns the plot has at most.
+const ROWS = 27, ROWS_BESIDE = 15, COLUMNS = 1000, BYTES_SHOWN = 8;
 
 const run = { words: '', trace: null, film: null, keys: null, listing: null, memory: null, first: 0, begin: 0, frames: 1, pictures: null, counts: null, isSure: true };
 const place = { line: 0, frame: 0, cycle: 0 };
 
-const get = id => document.getElementById(id);
-const group = number => number.toLocaleString('en');
-const many = (number, thing) => `${group(number)} ${thing}${number === 1 ? '' : 's'}`;
-const escapeLetter = letter => `\\x${letter.charCodeAt(0).toString(16).toUpperCase().padStart(2, '0')}`;
-const quote = text => `“${text.slice(0, 200).replace(/[\0-\x1F\x7F\uFEFF\uFFFD]/g, escapeLetter)}${text.length > 200 ? '…' : ''}”`;
-const refuse = words => { throw Error(words); };
 // (of a text that is too long for it a browser may make an empty one)
 const decode = bytes => new TextDecoder('utf-8', { ignoreBOM: true }).decode(bytes)
   || (bytes.length ? refuse(`A text of ${group(bytes.length)} bytes is too long for this browser: take fewer CYCLES, or go on from a saved state`) : '');
@@ -207,8 +36,8 @@ const INSTRUCTION_LINE = lineOf(INSTRUCTION), PROGRAM = lineOf(INSTRUCTION, STRE
 
 const fits = (form, text, at) => { form.lastIndex = at; return form.test(text); };
 
-// A trace: where each line starts, and its cycle, labels aside; the labels before a line; what DMA fetched in each frame; and the report, if it stands behind
-// the last line.
+// A trace: where each line starts, and its cycle, labels aside; the labels before a line; what DMA fetched in each frame; and the report, if it follows the
+// last line.
 function readTrace(text, name) {
   const form = [TIMED, UNTIMED].find(form => fits(form, text, 0)) || PROGRAM, report = REPORT.exec(text.slice(-80));
   const starts = [], cycles = [], labels = new Map(), fetched = new Map(), end = text.length - (report ? report[0].length : 0);
@@ -247,8 +76,8 @@ function readListing(text, name) {
     if (number) lines.push({ number: +number, text: source, size: 0, address: parseInt(value, 16) });
     else if (!more || !lines.length) refuse(`${name} is no listing of vip: its line ${group(at + 1)} is ${quote(line)}`);
     const from = parseInt(more ?? value, 16);
-    (moreBytes ?? digits.trim()).match(/../g)?.forEach((byte, behind) => {
-      bytes.set(from + behind & 0xFFFF, { number: lines.at(-1).number, byte });
+    (moreBytes ?? digits.trim()).match(/../g)?.forEach((byte, offset) => {
+      bytes.set(from + offset & 0xFFFF, { number: lines.at(-1).number, byte });
       lines.at(-1).size++;
     });
   });
@@ -271,24 +100,12 @@ function readFilm(bytes, name) {
   return { bytes, count, picture };
 }
 
-function readKeys(text, name) {
-  const events = [];
-  text.split('\n').forEach((line, at) => {
-    if (/^\s*(#|$)/.test(line)) return;
-    const [, cycle, way, key] = /^[ \t]*(\d+)[ \t]+(down|up)[ \t]+([0-9A-Fa-f])[ \t]*\r?$/.exec(line) || [], last = events.at(-1)?.cycle ?? 0;
-    if (!key || +cycle > MOST) refuse(`${name} is no key script of vip: its line ${group(at + 1)} is ${quote(line)}`);
-    if (+cycle < last) refuse(`${name} is no key script of vip: its line ${group(at + 1)} comes before the one above it`);
-    events.push({ cycle: +cycle, isDown: way === 'down', key: key.toUpperCase() });
-  });
-  return { text, events };
-}
-
 // ---- What belongs together
 
-// The frame of a cycle: that of the first picture that is finished behind it.
+// The frame of a cycle: that of the first picture that is finished after it.
 const frameOf = cycle => Math.floor((cycle + FRAME - END) / FRAME);
 
-// The frames of a program's pictures. Its display may be off, so each is told by the bytes that DMA fetched in its frame.
+// The frames of a program's pictures. Its display may be off, so each is found by the bytes that DMA fetched in its frame.
 function framesFetched(film, trace, isFromEnd) {
   const limit = +(trace.report?.[2] ?? Infinity), pictures = [...Array(film.count).keys()], found = [];
   const frames = [...trace.fetched.keys()].filter(frame => frame * FRAME + END <= limit);
@@ -363,7 +180,7 @@ function goWhere(isSo, step, words, from = place.line) {
 function goPc(pc, step, from, name) {
   const hasPc = line => run.trace.text.startsWith(`${pc} `, run.trace.starts[line] + pcColumn()) || name && run.trace.labels.get(line)?.includes(name);
   goWhere(line => pc && hasPc(line), step,
-    pc ? `No line ${from === undefined ? step > 0 ? 'behind' : 'before' : 'of'} this ${from === undefined ? 'one' : 'run'} has ${name ? `${name}, which is ` : ''}${pc}.`
+    pc ? `No line ${from === undefined ? step > 0 ? 'after' : 'before' : 'of'} this ${from === undefined ? 'one' : 'run'} has ${name ? `${name}, which is ` : ''}${pc}.`
       : 'This line has no pc.', from);
 }
 
@@ -394,7 +211,7 @@ function sourceAt(line) {
 const sourceText = number => run.listing?.lines[number - 1]?.text.trim() ?? '';
 
 function goSource(number) {
-  const words = `Line ${group(number)} of the source doesn’t run behind this line.`;
+  const words = `Line ${group(number)} of the source doesn’t run after this line.`;
   goWhere(line => sourceAt(line) === number, 1, words);
 }
 
@@ -415,11 +232,11 @@ function showSource() {
   if (here) list.scrollTop = here.offsetTop - list.offsetTop - list.clientHeight / 2;
 }
 
-// What each named byte had from which line on. Three instructions store a byte that their line tells: STR, STXD and INP.
+// What each named byte had from which line on. Three instructions store a byte that their line shows: STR, STXD and INP.
 function readMemory() {
-  const values = new Map(), tell = (address, line, value) => {
-    const told = values.get(address) || values.set(address, []).get(address);
-    if (told.at(-1)?.value !== value) told.push({ line, value });
+  const values = new Map(), note = (address, line, value) => {
+    const known = values.get(address) || values.set(address, []).get(address);
+    if (known.at(-1)?.value !== value) known.push({ line, value });
   };
   const form = RegExp(INSTRUCTION, 'y');
   for (let line = 0; line < lineCount(); line++) {
@@ -427,17 +244,17 @@ function readMemory() {
     const [, , , bytes, , , , d, , , rx, atRx, name, value] = form.exec(run.trace.text) || [];
     if (!bytes) continue;
     const code = parseInt(bytes.slice(0, 2), 16), [to, there] = value?.split(' ') ?? [];
-    tell(rx, line, atRx);
-    if (there) tell(to, line, there);
-    if (code >> 4 === 5) tell(to, line + 1, d);
-    if (code === 0x73) tell(rx, line + 1, d);
-    if (code > 0x68 && code < 0x70) tell(rx, line + 1, value);
+    note(rx, line, atRx);
+    if (there) note(to, line, there);
+    if (code >> 4 === 5) note(to, line + 1, d);
+    if (code === 0x73) note(rx, line + 1, d);
+    if (code > 0x68 && code < 0x70) note(rx, line + 1, value);
   }
-  const hex = address => address.toString(16).toUpperCase().padStart(4, '0'), named = [];
+  const named = [];
   for (const { address, text, size } of run.listing.lines) {
     const [, name, word] = /^\s*(\w+):\s*(DS|EQU)\b/.exec(text) || [];
-    if (word === 'DS') for (let at = 0; at < Math.min(size, BYTES_SHOWN); at++) named.push([at ? `${name}+${at}` : name, hex(address + at)]);
-    if (word === 'EQU' && values.has(hex(address))) named.push([name, hex(address)]);
+    if (word === 'DS') for (let at = 0; at < Math.min(size, BYTES_SHOWN); at++) named.push([at ? `${name}+${at}` : name, hex(address + at, 4)]);
+    if (word === 'EQU' && values.has(hex(address, 4))) named.push([name, hex(address, 4)]);
   }
   return { values, named };
 }
@@ -446,14 +263,13 @@ function memoryAt(line) {
   if (!run.listing || run.trace?.isGame !== false) return [];
   run.memory ??= readMemory();
   return run.memory.named.map(([name, address]) => {
-    const told = run.memory.values.get(address) ?? [];
-    return [name, told.findLast(value => value.line <= line)?.value ?? run.listing.bytes.get(parseInt(address, 16))?.byte ?? '00'];
+    const known = run.memory.values.get(address) ?? [];
+    return [name, known.findLast(value => value.line <= line)?.value ?? run.listing.bytes.get(parseInt(address, 16))?.byte ?? '00'];
   });
 }
 
 // ---- The fields of a line
 
-const HEX_DIGITS = '0123456789ABCDEF';
 const FOLLOWS = { IDLE: 'how many cycles', 'INT T': 'T', 'DMA R0': 'R0, and the bytes' };
 // What a line says, as names and values: of the line itself; of a game's state beside its variables; and of those, or of the processor.
 function fieldsOf(line) {
@@ -464,7 +280,7 @@ function fieldsOf(line) {
     const [, pc, opcode, variables, index, delay, sound, tone, stack, ticks, cycle, words] = found;
     return [present(['pc', pc], ['opcode', opcode], ['in words', words], ['cycle', cycle]),
       present(['I', index], ['DT', delay], ['ST', sound], ['tone', tone], ['stack', stack.trim() || 'empty'], ['ticks', ticks]),
-      variables.trim().split(' ').map((value, at) => [HEX_DIGITS[at], value]).map(([at, value]) => ['V' + at, value, nameOf('V' + at)])];
+      variables.trim().split(' ').map((value, at) => [`V${hex(at, 1)}`, value, nameOf(`V${hex(at, 1)}`)])];
   }
   if ((found = match(INSTRUCTION))) {
     const [, cycle, address, bytes, words, p, x, d, df, q, rx, atRx, name, value] = found, [first, second] = value?.split(' ') ?? [];
@@ -482,12 +298,6 @@ function lineBefore(line) {
 }
 
 // ---- Showing
-
-const make = (tag, properties, ...children) => {
-  const made = Object.assign(document.createElement(tag), properties);
-  made.append(...children);
-  return made;
-};
 
 // How many fields stand side by side: as many as there are, but where the page is narrow.
 const fieldsInRow = () => matchMedia('(max-width: 40rem)').matches ? 4 : 16;
@@ -549,22 +359,12 @@ function showPicture() {
   let frame = place.frame;
   while (frame > run.begin && run.pictures[frame] < 0) frame--;
   const isOwn = run.pictures[place.frame] >= 0, bytes = run.pictures[frame] < 0 ? new Uint8Array(BYTES) : run.film.picture(run.pictures[frame]);
-  const dots = new ImageData(64, LINES), colours = new Uint32Array(dots.data.buffer);
-  for (let dot = 0; dot < colours.length; dot++) colours[dot] = bytes[dot >> 3] >> 7 - dot % 8 & 1 ? 0xFFFFFFFF : 0xFF000000;
-  get('picture').getContext('2d').putImageData(dots, 0, 0);
+  drawDots(get('picture'), bytes);
   get('picture').className = isOwn ? '' : 'before';
   get('picture').ariaLabel = isOwn ? `The picture of frame ${group(frame)}, below as text` : 'This frame has no picture';
   if (get('text').open) get('as-text').textContent = dotsAsText(bytes);
-  get('remark').textContent = !hasDisplay() && run.film ? '' : !run.film ? 'There is no film.' : isOwn ? run.isSure ? '' : 'Some pictures fit more than one frame; each stands with the last.'
+  get('remark').textContent = !hasDisplay() && run.film ? '' : !run.film ? 'There is no film.' : isOwn ? run.isSure ? '' : 'Some pictures fit more than one frame; each is shown with the last.'
     : !run.trace?.isGame ? 'This frame has no picture.' : `The run ends before this picture is whole${run.film.count ? '; dimmed, the last one' : ''}.`;
-}
-
-// The dots as text: a line of it for four lines that are alike throughout, or for two, or for each.
-function dotsAsText(bytes) {
-  const digits = line => Array.from(bytes.subarray(8 * line, 8 * line + 8), byte => byte.toString(2).padStart(8, '0')).join('');
-  const lines = Array.from({ length: LINES }, (_, line) => digits(line));
-  const height = [4, 2, 1].find(height => lines.every((line, at) => line === lines[at - at % height]));
-  return lines.filter((_, at) => at % height === 0).join('\n').replaceAll('0', '.').replaceAll('1', '#');
 }
 
 function showKeys() {
@@ -590,8 +390,8 @@ function showPlace() {
   const { frame, line, cycle } = place, count = lineCount(), all = run.frames - run.begin, column = (frame - run.begin + 0.5) * Math.min(all, COLUMNS) / all;
   get('frame-of').textContent = `${group(frame)} of ${group(run.begin)} to ${group(run.frames - 1)}`;
   get('line-of').textContent = count ? `${group(line + 1)} of ${group(count)}` : 'none';
-  Object.assign(get('frame'), { min: run.begin, max: run.frames - 1, value: frame, ariaValueText: get('frame-of').textContent });
-  Object.assign(get('line'), { max: Math.max(0, count - 1), value: line, ariaValueText: get('line-of').textContent });
+  setSlider(get('frame'), { least: run.begin, most: run.frames - 1, value: frame, text: get('frame-of').textContent });
+  setSlider(get('line'), { least: 0, most: Math.max(0, count - 1), value: line, text: get('line-of').textContent });
   get('frame-is').textContent = `Picture of frame ${group(frame)}: cycle ${group(frame * FRAME + BEGIN)} to ${group(frame * FRAME + END)}`;
   get('line-is').textContent = !count ? 'There are no lines.' : !run.counts ? 'These lines have no cycles (--at), so no pictures.'
     : `Line ${group(line + 1)}: cycle ${group(run.trace.cycles[line])}`;
@@ -625,13 +425,14 @@ let since = null;
 function play() {
   if (since === null && place.frame === run.frames - 1) goFrame(run.begin);
   since = since === null ? performance.now() : null;
-  get('play').textContent = since === null ? 'Play' : 'Pause';
+  get('play').ariaLabel = since === null ? 'Play' : 'Pause';
+  get('play-icon').setAttribute('href', since === null ? '#i-play' : '#i-pause');
   if (since === null) goFrame(place.frame); else requestAnimationFrame(playOn);
 }
 
 function playOn(now) {
   if (since === null) return;
-  const each = 1000 / get('speed').value, moved = Math.max(0, Math.floor((now - since) / each));
+  const each = 1000 / document.querySelector('[name=speed]:checked').value, moved = Math.max(0, Math.floor((now - since) / each));
   since += moved * each;
   if (moved) goFrame(place.frame + moved);
   if (place.frame === run.frames - 1) play(); else requestAnimationFrame(playOn);
@@ -642,12 +443,10 @@ function playOn(now) {
 // The bytes of a file, or what gzip packed in them.
 async function unpack(bytes, name) {
   if (bytes[0] !== 0x1F || bytes[1] !== 0x8B) return bytes;
-  const { readable, writable } = new DecompressionStream('gzip'), whole = new Response(readable).arrayBuffer(), writer = writable.getWriter();
-  await Promise.all([writer.write(bytes), writer.close(), whole]).catch(() => refuse(`${name} is cut off or damaged: gzip can’t unpack it`));
-  return new Uint8Array(await whole);
+  return pipe(bytes, new DecompressionStream('gzip')).catch(() => refuse(`${name} is cut off or damaged: gzip can’t unpack it`));
 }
 
-// What a file is, and its contents. What it is, is told by how it begins.
+// What a file is, and its contents. How it begins shows what it is.
 async function readFile(file) {
   const name = quote(file.name), bytes = await unpack(new Uint8Array(await file.arrayBuffer()), name), start = decode(bytes.subarray(0, 200));
   if (start.startsWith('P4')) return ['film', readFilm(bytes, name)];
@@ -675,11 +474,8 @@ async function attempt(work) {
   await work.catch(fault => { get('fault').textContent = `${fault.message}.`; get('fault').scrollIntoView({ block: 'nearest' }); });
 }
 
-// The bytes that stand in this page under a name.
-async function readEmbedded(id) {
-  const letters = get(id).textContent;
-  return unpack(Uint8Array.fromBase64?.(letters) ?? Uint8Array.from(atob(letters), letter => letter.charCodeAt(0)));
-}
+// The bytes that are in this page under a name.
+const readEmbedded = async id => unpack(fromBase64(get(id).textContent), 'The page');
 
 async function openOwn() {
   const bytesOf = id => readEmbedded(id).catch(() => refuse('This page is cut off or damaged')), textOf = async id => decode(await bytesOf(id));
@@ -717,11 +513,8 @@ function openRun() {
   get('lines').focus({ preventScroll: true });
 }
 
-// A dot is a whole number of the display's own dots, four times as wide as a line is high, so that all are alike.
-function fitPicture() {
-  const times = Math.max(1, Math.floor(get('around').clientWidth * devicePixelRatio / 256)) / devicePixelRatio;
-  Object.assign(get('picture').style, { width: `${256 * times}px`, height: `${128 * times}px` });
-}
+// Each line as high as each other.
+const fitPicture = () => fit(get('picture'), get('around').clientWidth, Infinity, 1);
 
 // Goes to the place that the page's address names, as in run.html#line=120, or #pc=hitbat.
 function goHash() {
@@ -733,12 +526,11 @@ function goHash() {
 
 // ---- What is pressed
 
-const save = (name, what) => make('a', { download: name, href: URL.createObjectURL(new Blob([what])) }).click();
 const ACTIONS = {
   'first-frame': () => goFrame(run.begin), 'frame-back': () => goFrame(place.frame - 1), 'frame-on': () => goFrame(place.frame + 1),
   'last-frame': () => goFrame(run.frames), 'first-line': () => goLine(0), 'line-back': () => goLine(place.line - 1), 'line-on': () => goLine(place.line + 1),
   'last-line': () => goLine(lineCount()), 'same-on': () => goPc(pcHere(), 1), play,
-  'save-trace': () => save('run.trace', run.trace.text), 'save-film': () => save('run.pbm', run.film.bytes), 'save-keys': () => save('run.keys', run.keys.text),
+  'save-trace': () => download('run.trace', run.trace.text), 'save-film': () => download('run.pbm', run.film.bytes), 'save-keys': () => download('run.keys', run.keys.text),
 };
 const PRESSED = {
   ArrowLeft: ACTIONS['frame-back'], ArrowRight: ACTIONS['frame-on'], ArrowUp: ACTIONS['line-back'], ArrowDown: ACTIONS['line-on'], ' ': play,
@@ -796,7 +588,3 @@ addEventListener('DOMContentLoaded', async () => {
   get('loading').hidden = true;
   requestAnimationFrame(() => setTimeout(() => performance.mark('usable')));
 });
-</script>
-<!-- The run's texts stand here, each packed by gzip and written in base64. -->
-</body>
-</html>
