@@ -1,31 +1,76 @@
-"""Builds the wheel of `vip` with the standard library alone, so that `pip install ./python` needs no network and no other package (PEP 517)."""
+"""Build the wheel of `vip`, with the library in it, by the standard library alone (PEP 517).
+
+So `pip install ./python` needs no network, no other package and no compiler. The library is the one that
+`vip._engine` finds for this folder, and the version is the one that the library gives.
+"""
 import base64
 import hashlib
-import os
+import importlib
+import pathlib
 import re
+import sys
 import zipfile
 
-TAG = "py3-none-any"
+HERE = pathlib.Path(__file__).resolve().parent
+# The policies of PEP 600 for x86-64 with the aliases of older ones, by the C library that each takes.
+ALIASES = {(2, 5): ".manylinux1_x86_64", (2, 12): ".manylinux2010_x86_64", (2, 17): ".manylinux2014_x86_64"}
+POLICIES = sorted([*ALIASES, *((2, minor) for minor in (24, 26, 27, 28, 31, 34, 35, 36, 37, 38, 39, 40, 41))])
+
+
+def library_and_version() -> tuple[bytes, str]:
+    """Return the bytes of the library, and the version that it gives."""
+    sys.path.insert(0, str(HERE))
+    import vip
+
+    # (the package has a function of the same name as this module)
+    _engine = importlib.import_module("vip._engine")
+
+    return pathlib.Path(_engine._library()).read_bytes(), vip.version()
+
+
+def tag(library: bytes) -> str:
+    """Return the wheel's tag, as auditwheel chooses it: the oldest policy whose C library has each symbol."""
+    versions = {(int(major), int(minor)) for major, minor in re.findall(rb"GLIBC_(\d+)\.(\d+)", library)}
+    needed = max(versions, default=POLICIES[0])
+    major, minor = next((policy for policy in POLICIES if policy >= needed), needed)
+    return f"py3-none-manylinux_{major}_{minor}_x86_64{ALIASES.get((major, minor), '')}"
+
+
+def files_of_wheel() -> tuple[str, str, dict[str, bytes]]:
+    """Return the wheel's name and version, its tag, and the content of each file in it."""
+    said = dict(re.findall(r'(?m)^([\w-]+) = "(.*)"$', (HERE / "pyproject.toml").read_text(encoding="utf-8")))
+    library, version = library_and_version()
+    stem = f"vip-{version}"
+    files = {f"vip/{path.name}": path.read_bytes() for path in sorted((HERE / "vip").iterdir()) if path.suffix in (".py", ".typed")}
+    files["vip/libvip.so"] = library
+    metadata = {
+        "Metadata-Version": "2.1",
+        "Name": "vip",
+        "Version": version,
+        "Summary": said["description"],
+        "Requires-Python": said["requires-python"],
+    }
+    files[f"{stem}.dist-info/METADATA"] = "".join(f"{name}: {value}\n" for name, value in metadata.items()).encode()
+    interpreter, abi, platforms = tag(library).split("-")
+    tags = "".join(f"Tag: {interpreter}-{abi}-{platform}\n" for platform in platforms.split("."))
+    files[f"{stem}.dist-info/WHEEL"] = f"Wheel-Version: 1.0\nGenerator: vip\nRoot-Is-Purelib: false\n{tags}".encode()
+    return stem, tag(library), files
 
 
 def build_wheel(wheel_directory, config_settings=None, metadata_directory=None):  # pylint: disable=unused-argument
-    """Writes the wheel of the module's files into a folder, and gives its name."""
-    with open("pyproject.toml", encoding="utf-8") as file:
-        said = dict(re.findall(r'(?m)^([\w-]+) = "(.*)"$', file.read()))
-    stem = f"vip-{said['version']}"
-    files = {}
-    for name in sorted(os.listdir("vip")):
-        if name.endswith(".py"):
-            with open(os.path.join("vip", name), "rb") as file:
-                files[f"vip/{name}"] = file.read()
-    of_it = {"Metadata-Version": "2.1", "Name": "vip", "Version": said["version"], "Summary": said["description"], "Requires-Python": said["requires-python"]}
-    files[f"{stem}.dist-info/METADATA"] = "".join(f"{name}: {value}\n" for name, value in of_it.items()).encode()
-    files[f"{stem}.dist-info/WHEEL"] = f"Wheel-Version: 1.0\nGenerator: vip\nRoot-Is-Purelib: true\nTag: {TAG}\n".encode()
-    sums = {name: base64.urlsafe_b64encode(hashlib.sha256(content).digest()).rstrip(b"=").decode() for name, content in files.items()}
+    """Write the wheel into a folder, and return its name."""
+    stem, its_tag, files = files_of_wheel()
     record = f"{stem}.dist-info/RECORD"
-    rows = [f"{name},sha256={sums[name]},{len(files[name])}" for name in files]
+    rows = []
+    for name, content in files.items():
+        digest = base64.urlsafe_b64encode(hashlib.sha256(content).digest()).rstrip(b"=").decode()
+        rows.append(f"{name},sha256={digest},{len(content)}")
     files[record] = "\n".join([*rows, f"{record},,", ""]).encode()
-    with zipfile.ZipFile(os.path.join(wheel_directory, f"{stem}-{TAG}.whl"), "w") as wheel:
+    wheel_name = f"{stem}-{its_tag}.whl"
+    with zipfile.ZipFile(pathlib.Path(wheel_directory) / wheel_name, "w", zipfile.ZIP_DEFLATED) as wheel:
         for name, content in files.items():
-            wheel.writestr(name, content)
-    return f"{stem}-{TAG}.whl"
+            entry = zipfile.ZipInfo(name)  # (of a fixed time, so that the same files give the same wheel)
+            entry.external_attr = 0o644 << 16
+            entry.compress_type = zipfile.ZIP_DEFLATED
+            wheel.writestr(entry, content)
+    return wheel_name

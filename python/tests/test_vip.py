@@ -1,5 +1,6 @@
 """The module `vip`: python3 -m unittest discover -s python/tests, with PYTHONPATH=python. What is due is taken from the pages, and of runs from one another."""
 import os
+import random
 import unittest
 
 import vip
@@ -28,6 +29,88 @@ class Sources(unittest.TestCase):
 
     def test_disassembles(self):
         self.assertEqual(vip.assemble(vip.disassemble(SUM)), SUM)
+
+
+WORDS = (
+    "LDI PLO SEP BR OUT DB EQU ORG DS PAGE LD ADD JP DRW CALL start loop x X 5 300 0x10 05H R7 V3 #05 $A (5) [I] [x] = := += SET .EQU : ; , < > + - ' \" .. // jump "
+    "sprite again bcd BGE SUB TITLE INCLUDE HIGH(x) LOW(x) 1+ $ é (a (b) c) ( ) {NAME} " + "n" * 40
+).split()
+
+
+RIGHT = (" BR far", " LBR far", " LDI <far", " JP far", " LD I, far", " CALL far", " DB 1, 2", " ORG far", "near: DS 2", " LDI 5", " LD V1, 5", " LD V0, far-near")
+OCTO = (": main", "v0 := 5", "v1 += v0", "jump main", "if v0 == 3 then", "loop", "again", "sprite v0 v1 5", "i := long main", "return", ":alias x v3", "v2 := key")
+
+
+def random_source(seed):
+    """Lines of words that assemblers know in any order, beside some that are right and some of Octo."""
+    chance = random.Random(seed)
+    right, octo = chance.choice([(0, 0), (3, 0), (8, 0), (1, 8)])
+    lines = ["far: DB 0"] * chance.randrange(2)
+    for _ in range(chance.randrange(1, 24)):
+        words = [chance.choice(WORDS) for _ in range(chance.randrange(5))]
+        some = chance.choice(["", " ", "x: ", "start: ", "loop ", "\t"]) + chance.choice([" ", " ", "  ", ","]).join(words)
+        lines.append(chance.choices([some, chance.choice(RIGHT), chance.choice(OCTO)], (2, right, octo))[0])
+    return chance.choice(["\n", "\n", "\r\n"]).join(lines) + chance.choice(["", "\n"])
+
+
+class Faults(unittest.TestCase):
+    """Every line that `check` writes is read, and nothing of it is lost."""
+
+    def read(self, source, isa):
+        words = ["check", "s", *(["--chip8"] if isa == "chip8" else [])]
+        status, out, _ = vip.call(words, {"s": source})
+        faults = vip.check(source, isa)
+        lines = [
+            f"s:{fault.line}:{fault.column}: {fault.cause}: {fault.culprit}" + (f" ({fault.remedy})" if fault.remedy else "")
+            for fault in faults
+        ]
+        if faults.is_octo:
+            lines.append("s: this looks like Octo: see docs/FIRST_CHIP8.md, From Octo")
+        if faults.waiting:
+            more = "line more is" if faults.waiting == 1 else "lines more are"
+            lines.append(f"s: {faults.waiting} {more} looked at when these are mended")
+        self.assertEqual(out.decode().splitlines(), lines)
+        for fault in faults:
+            line = source.split(b"\n")[fault.line - 1][fault.column - 1 :]
+            shown = "".join(chr(byte) if 32 <= byte <= 126 else f"\\x{byte:02X}" for byte in line)
+            self.assertTrue(shown.startswith(fault.culprit), (fault, line))
+            if fault.cause == "UnknownMnemonic":
+                self.assertNotIn(" ", fault.culprit)
+        if status == 7:
+            with self.assertRaises(vip.SourceError) as bad:
+                vip.assemble(source, isa)
+            self.assertEqual(bad.exception.faults, faults)
+        return faults
+
+    def test_reads_all_cases(self):
+        with open(os.path.join(TOP, "crates", "test_cases", "data", "cases.txt"), encoding="utf-8") as file:
+            cases = [case for case in vip.read_cases(file.read()) if case.words[:1] == ("check",)]
+        found = [
+            self.read(case.files[case.words[1]], "chip8" if "--chip8" in case.words else "1802")
+            for case in cases
+            if len(case.words) > 1 and len(case.files.get(case.words[1], b"x" * (1 << 21))) <= 1 << 20
+        ]
+        self.assertGreater(len(found), 150)
+        self.assertTrue(any(faults.waiting for faults in found) and any(faults.is_octo for faults in found))
+
+    def test_reads_random_sources(self):
+        found = [self.read(random_source(seed).encode(), ("1802", "chip8")[seed % 2]) for seed in range(1000)]
+        self.assertGreater(sum(map(len, found)), 3000)
+        self.assertGreater(sum(faults.waiting > 0 for faults in found), 100)
+        self.assertGreater(sum(faults.is_octo for faults in found), 20)
+
+    def test_parts_the_suggestion_from_the_text(self):
+        faults = vip.check(" LDI 1 (2)\n LDI (5)\n FOO (x)\n BGE (here it is BDF)\n", "1802")
+        parts = [(fault.culprit, fault.remedy) for fault in faults]
+        self.assertEqual(parts[0], ("1 (2)", "an expression has no blanks"))
+        self.assertEqual(parts[1], ("(5)", "there are no parentheses"))
+        self.assertEqual(parts[2], ("FOO", ""))
+        self.assertEqual(parts[3], ("BGE", "here it is BDF"))
+
+    def test_says_how_many_lines_wait(self):
+        faults = vip.check(" LDI #5\nx: BR x\n FOO\n", "1802")
+        self.assertEqual([fault.line for fault in faults], [1, 3])
+        self.assertEqual(faults.waiting, 1)
 
 
 class Runs(unittest.TestCase):

@@ -15,16 +15,17 @@ raises Refused, with the status and the report of the program `vip`, whose texts
 from __future__ import annotations
 
 import dataclasses
-import functools
 import re
 from dataclasses import dataclass, field
 from typing import Iterator, Mapping, NamedTuple, Sequence
 
+from . import _texts
 from ._engine import Library as _Library
 from ._engine import engine as _engine
+from ._texts import Dma, Fault, Faults, Idle, Instruction, Interrupt, Point, Step
 
 __all__ = [
-    "FRAME", "MOST_CYCLES", "Case", "Dma", "Fault", "Frame", "Idle", "Instruction", "Interrupt", "Picture", "Point", "Profile", "Program", "Refused", "Run",
+    "FRAME", "MOST_CYCLES", "Case", "Dma", "Fault", "Faults", "Frame", "Idle", "Instruction", "Interrupt", "Picture", "Point", "Profile", "Program", "Refused", "Run",
     "Screen", "SourceError", "Step", "Stop", "assemble", "bounds", "call", "certify", "check", "cycles", "disassemble", "listing", "read_cases", "safe",
     "timing", "uses_library", "version",
 ]
@@ -43,38 +44,27 @@ class Refused(Exception):
         self.status, self.report = status, report
 
 
-class Fault(NamedTuple):
-    """A fault of a source: line and column from 1, its cause by name, the culprit, and a remedy or ''. The cause of a note is 'note'."""
-
-    line: int
-    column: int
-    cause: str
-    culprit: str
-    remedy: str
-
-
 class SourceError(Refused):
-    """A source with faults, all that `check` tells, in order."""
+    """A source with faults: all that `check` reports, in order."""
 
-    def __init__(self, status: int, report: str, faults: Sequence[Fault]):
+    def __init__(self, status: int, report: str, faults: Faults):
         super().__init__(status, report)
-        self.faults = tuple(faults)
+        self.faults = faults
 
 
-@functools.lru_cache(maxsize=None)
-def _call():
-    return _engine()
+# (at import, so that a module without its library says so there)
+_ENGINE = _engine()
 
 
 def call(words: Sequence[str], files: Mapping[str, bytes] | None = None) -> tuple[int, bytes, str]:
     """The status, the output and the report of `vip` on these words and the files that they name."""
-    status, out, err = _call()(list(words), files or {})
+    status, out, err = _ENGINE(list(words), files or {})
     return status, out, err.decode(errors="replace").rstrip("\n")
 
 
 def uses_library() -> bool:
     """Whether calls go to the library, and not to the program, a process each."""
-    return isinstance(_call(), _Library)
+    return isinstance(_ENGINE, _Library)
 
 
 def _done(words, files=None, also=()):
@@ -98,15 +88,14 @@ def _isa(isa):
     return ["--chip8"] if isa == "chip8" else []
 
 
-def check(source: str | bytes, isa: str = "chip8") -> list[Fault]:
-    """Every fault of a source in CHIP-8's words, or the 1802's, with the notes; none where `assemble` takes it."""
-    out, _ = _done(["check", "s", *_isa(isa)], {"s": _bytes(source)}, also=(BAD_SOURCE,))
-    faults = []
-    for text in out.decode().splitlines():
-        line, column, cause, rest = re.fullmatch(r"s:(\d+):(\d+): (\w+): (.*)", text).groups()
-        culprit, _, remedy = rest.partition(" (") if rest.endswith(")") else (rest, "", ")")
-        faults.append(Fault(int(line), int(column), cause, culprit, remedy[:-1]))
-    return faults
+def check(source: str | bytes, isa: str = "chip8") -> Faults:
+    """Return every fault and note of a source, CHIP-8's or the 1802's.
+
+    The list is empty if `assemble` accepts the source and nothing in it looks like a mistake.
+    """
+    text = _bytes(source)
+    out, _ = _done(["check", "s", *_isa(isa)], {"s": text}, also=(BAD_SOURCE,))
+    return _texts.faults(out.decode(), text)
 
 
 def assemble(source: str | bytes, isa: str = "chip8") -> bytes:
@@ -169,40 +158,10 @@ def version() -> str:
     return _done(["version"])[0].decode().split()[1]
 
 
+__version__ = version()
+
+
 # ---- what a run shows
-
-
-class Point(NamedTuple):
-    """A dispatch point: the state of the language where the opcode at pc is about to be fetched. The opcode is None where it doesn't lie in game memory. The
-    timers count frames; the stack has addresses, the oldest first; `ticks` counts the timer ticks modulo 65536, `cycle` is the machine cycle."""
-
-    pc: int
-    opcode: int | None
-    v: tuple[int, ...]
-    i: int
-    dt: int
-    st: int
-    tone: bool
-    stack: tuple[int, ...]
-    ticks: int
-    cycle: int
-
-
-def _point(line):
-    words = line.split()
-    number = words.index("N")
-    return Point(
-        int(words[0], 16),
-        None if words[1] == "----" else int(words[1], 16),
-        tuple(int(word, 16) for word in words[3:19]),
-        int(words[20], 16),
-        int(words[22], 16),
-        int(words[24], 16),
-        words[26] == "1",
-        tuple(int(word, 16) for word in words[28:number]),
-        int(words[number + 1], 16),
-        int(words[number + 3]),
-    )
 
 
 @dataclass(frozen=True)
@@ -255,17 +214,6 @@ class Stop(NamedTuple):
 def _stop(report):
     words = report.split()
     return Stop(words[1], int(words[2], 16) if len(words) == 5 else None, int(words[-1], 16))
-
-
-class Step(NamedTuple):
-    """A row of a profile: the address at which its steps began, the opcode or None, how many they are, and the sum, the least and the most of their cycles."""
-
-    pc: int
-    opcode: int | None
-    steps: int
-    cycles: int
-    least: int
-    most: int
 
 
 class Profile(NamedTuple):
@@ -400,7 +348,7 @@ class Run:
     def points(self, *, frames: int = 0, cycles: int = 0) -> list[Point]:
         """The dispatch points of the next frames and cycles, behind the run's last one."""
         out, _ = self._ask("trace", self.cycle + frames * FRAME + cycles, ["--at"])
-        return [_point(line) for line in out.decode().splitlines()]
+        return [_texts.point(line) for line in out.decode().splitlines()]
 
     def pictures(self, *, frames: int = 0, cycles: int = 0) -> list[Picture]:
         """The pictures that are finished in the next frames and cycles."""
@@ -423,7 +371,7 @@ class Run:
     def _some_frames(self, count, end):
         out, report = self._ask("trace", end, ["--at"])
         stopped = report.startswith("stopped")
-        points = [_point(line) for line in out.decode().splitlines()]
+        points = [_texts.point(line) for line in out.decode().splitlines()]
         pictures = self.pictures(frames=count)
         # a picture is finished at one place of each frame, from the first one on in which the display is on
         ends = [at for at in range(self.cycle // FRAME * FRAME + WHOLE, end + 1, FRAME) if at > self.cycle]
@@ -444,7 +392,7 @@ class Run:
     def state(self) -> Point | None:
         """The last dispatch point, or None before the first one."""
         lines = self._answers("state")
-        return None if lines == ["none"] else _point(lines[0])
+        return None if lines == ["none"] else _texts.point(lines[0])
 
     @property
     def screen(self) -> Screen:
@@ -478,11 +426,11 @@ class Run:
     def profile(self) -> Profile:
         """Where the time of the run went, from its start."""
         start = dataclasses.replace(self, cycle=0 if self.saved is None else _cycle_of(self.saved), _near=self.saved)
-        words = [line.split() for line in start._ask("profile", self.cycle)[0].decode().splitlines()]
-        one, two = words[0], words[1]
-        rows = (Step(int(row[0], 16), None if row[1] == "----" else int(row[1], 16), *map(int, row[2:])) for row in words[3:])
+        lines = start._ask("profile", self.cycle)[0].decode().splitlines()
+        one, two = lines[0].split(), lines[1].split()
         counts = (int(two[1]), int(two[4]), float(two[6]), int(two[8]))
-        return Profile(int(one[1]), int(one[3]), int(one[5]), int(one[7]), *counts, tuple(rows))
+        rows = tuple(map(_texts.step, lines[3:]))
+        return Profile(int(one[1]), int(one[3]), int(one[5]), int(one[7]), *counts, rows)
 
 
 def _cycle_of(saved):
@@ -490,59 +438,6 @@ def _cycle_of(saved):
 
 
 # ---- a program for the processor
-
-
-class Instruction(NamedTuple):
-    """An instruction that a program makes: its cycle, address, bytes and words, and what the processor has before it; `named` is what it names, or ''."""
-
-    cycle: int
-    address: int
-    code: bytes
-    words: str
-    p: int
-    x: int
-    d: int
-    df: int
-    q: int
-    rx: int
-    at_rx: int
-    named: str
-
-
-class Idle(NamedTuple):
-    """So many cycles in which the processor idles."""
-
-    cycle: int
-    count: int
-
-
-class Interrupt(NamedTuple):
-    """An interrupt, and the T that it makes."""
-
-    cycle: int
-    t: int
-
-
-class Dma(NamedTuple):
-    """The DMA cycles of one raster line: R(0) before the first, and the bytes."""
-
-    cycle: int
-    r0: int
-    code: bytes
-
-
-def _move(line):
-    words = line.split()
-    cycle = int(words[0])
-    if words[1] == "IDLE":
-        return Idle(cycle, int(words[2]))
-    if words[1] == "INT":
-        return Interrupt(cycle, int(words[3], 16))
-    if words[1] == "DMA":
-        return Dma(cycle, int(words[3], 16), bytes.fromhex("".join(words[4:])))
-    held = line[35:].split()
-    numbers = (int(held[at], 16) for at in (1, 3, 5, 7, 9, 11, 12))
-    return Instruction(cycle, int(line[11:15], 16), bytes.fromhex(line[16:22].strip()), line[23:34].strip(), *numbers, " ".join(held[13:]))
 
 
 @dataclass(frozen=True)
@@ -564,7 +459,7 @@ class Program:
 
     def trace(self, limit: int) -> list[Instruction | Idle | Interrupt | Dma]:
         """What the program does up to a cycle, from reset on."""
-        return [_move(line) for line in self._ask("trace", limit)[0].decode().splitlines()]
+        return [_texts.move(line) for line in self._ask("trace", limit)[0].decode().splitlines()]
 
     def pictures(self, limit: int) -> list[Picture]:
         """The pictures that are finished up to a cycle."""
@@ -573,7 +468,7 @@ class Program:
     def bytes_at(self, cycle: int, address: int, count: int) -> bytes:
         """So many bytes, from 1 to 4,096, that the processor would read at a cycle from an address on."""
         out, _ = self._ask("debug", cycle, {"c": f"to {cycle}\nmem {address:X} {count}\n".encode()})
-        return b"".join(bytes.fromhex("".join(line.split()[1:])) for line in out.decode().splitlines()[1:])
+        return _texts.dump(out.decode().splitlines()[1:])
 
 
 # ---- cases

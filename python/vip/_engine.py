@@ -1,6 +1,5 @@
-"""The way to `vip`: its library where there is one, else its program, a process a call."""
+"""The way to `vip`: its library, or its program with a process for each call if VIP_PROGRAM says so."""
 import ctypes
-import ctypes.util
 import mmap
 import os
 import shutil
@@ -11,7 +10,6 @@ HERE = os.path.dirname(os.path.realpath(__file__))
 # the folder of a checkout or of what ./install puts below a prefix
 TOP = os.path.dirname(os.path.dirname(HERE))
 PREFIX = os.path.dirname(os.path.dirname(TOP))
-BUILT = os.path.join(TOP, "crates", "vip_cli", "out")
 ROOM = 1 << 25  # bytes of output that a first call has room for; what of it isn't written takes no memory
 
 
@@ -74,25 +72,42 @@ class Processes:
         return ran.returncode, ran.stdout, ran.stderr
 
 
-def _libraries():
-    """Where a library may be, the first that is there counts: one that VIP_LIBRARY names, of a checkout, of a prefix, of the system."""
+def _library() -> str:
+    """Return the path of the library: the one VIP_LIBRARY names, else beside the module, of the
+    checkout, of the prefix, or of the system, the first that is there.
+    """
     if "VIP_LIBRARY" in os.environ:
-        return [os.environ["VIP_LIBRARY"]]
-    near = [os.path.join(HERE, "libvip.so"), os.path.join(BUILT, "libvip.so"), os.path.join(PREFIX, "lib", "libvip.so.1")]
-    return [path for path in near if os.path.exists(path)] + ["libvip.so.1"]
+        return os.environ["VIP_LIBRARY"]
+    beside = os.path.join(HERE, "libvip.so")
+    if os.path.exists(beside):
+        return beside
+    choose = os.path.join(TOP, "share", "choose")
+    if os.path.exists(choose):
+        # (the library that ./vip would use, so the one that was made from the sources in this checkout)
+        chosen = subprocess.run([choose, "library", "--no-build"], capture_output=True, text=True, check=False)
+        if chosen.returncode != 0:
+            raise ImportError(chosen.stderr.strip() or "share/choose finds no libvip.so")
+        return chosen.stdout.strip()
+    installed = os.path.join(PREFIX, "lib", "libvip.so.1")
+    return installed if os.path.exists(installed) else "libvip.so.1"
 
 
 def engine():
-    """The library, or the program: that of VIP_PROGRAM, of a checkout, of a prefix, or the one on the path."""
-    if "VIP_PROGRAM" not in os.environ:
-        for path in _libraries():
-            try:
-                return Library(path)
-            except (OSError, AttributeError):
-                if "VIP_LIBRARY" in os.environ:
-                    raise
-    places = os.path.join(BUILT, "vip_cli"), os.path.join(TOP, "vip"), os.path.join(PREFIX, "bin", "vip"), "vip"
-    program = os.environ.get("VIP_PROGRAM") or next(filter(None, map(shutil.which, places)), None)
-    if not program:
-        raise ImportError("there is neither libvip.so nor the program vip: build them by ./vip, or install them by ./install")
-    return Processes(os.path.abspath(program))
+    """Return the library, or the program if VIP_PROGRAM names one, which takes a process for each call.
+
+    Raises ImportError if there is no library: calls by processes are some 50 times slower, so nothing
+    falls back to them by itself.
+    """
+    if "VIP_PROGRAM" in os.environ:
+        program = shutil.which(os.environ["VIP_PROGRAM"])
+        if not program:
+            raise ImportError(f"VIP_PROGRAM names no program: {os.environ['VIP_PROGRAM']}")
+        return Processes(os.path.abspath(program))
+    path = _library()
+    try:
+        return Library(path)
+    except (OSError, AttributeError) as fault:
+        raise ImportError(
+            f"vip needs its library, and {path} can't be loaded ({fault}): install the module by "
+            "`pip install ./python` in a checkout, which has libvip.so in it, or set VIP_LIBRARY to its path"
+        ) from fault
