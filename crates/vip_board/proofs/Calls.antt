@@ -48,16 +48,16 @@ abbrev SendsNothing : Cycle → Type 0
 SendsNothing c = (c.effect.port ≡ None) × (c.effect.write ≡ None)
 
 -- what a bus of the wires means by its calls
-abbrev pub Writes : Wires → ℕ → ℕ → Wires → Type 0
+abbrev pub Writes : {K : Type 0} → Wires K → ℕ → ℕ → Wires K → Type 0
 Writes w address value after = after ≡ after_write address value w
 
-abbrev pub Sends : Wires → ℕ → ℕ → Wires → Type 0
+abbrev pub Sends : {K : Type 0} → Wires K → ℕ → ℕ → Wires K → Type 0
 Sends w port value after = after ≡ after_port (Send port value) w
 
-abbrev pub Receives : Wires → ℕ → ℕ → Wires → Type 0
+abbrev pub Receives : {K : Type 0} → Wires K → ℕ → ℕ → Wires K → Type 0
 Receives w port value after = (value ≡ 0) × (after ≡ after_port (Receive port) w)
 
-pub calls-are : (port : Option Port) (write : Option (ℕ × ℕ)) (taken : ℕ) (w v : Wires) → ((p b : ℕ) → port ≡ Some (Send p b) → write ≡ None)
+pub calls-are : {K : Type 0} (port : Option Port) (write : Option (ℕ × ℕ)) (taken : ℕ) (w v : Wires K) → ((p b : ℕ) → port ≡ Some (Send p b) → write ≡ None)
     → Calls Writes Sends Receives port write taken w v → (taken ≡ 0) × (v ≡ after_calls port write w)
 calls-are None None taken w v a c = (c.0, c.1)
 calls-are None (Some x) taken w v a c = (c.0, c.1)
@@ -67,23 +67,23 @@ calls-are (Some (Receive p)) None taken w v a c = (c.0, c.1)
 calls-are (Some (Receive p)) (Some x) taken w v a c = (c.1.0, c.2 ∙ ap (after_write x.0 x.1) c.1.1)
 
 -- the byte at each address, and the flags
-abbrev pub bytes : Wires → ℕ → ℕ
+abbrev pub bytes : {K : Type 0} → Wires K → ℕ → ℕ
 bytes w = read w.memory.rom w.memory.latch w.memory.ram
 
-abbrev pub flags : Wires → ℕ → Bool
+abbrev pub flags : {K : Type 0} → Wires K → ℕ → Bool
 flags w = flags_of (efx_at w.video.cycles w.video.on) (held_at w.keypad.script w.video.cycles w.keypad.latched)
 
 -- what the processor's cycle makes
-pub record Made (cpu : Processor) (w : Wires) (p : Processor) (v : Wires) (d : Did) : Type 0 where
+pub record Made {K : Type 0} (cpu : Processor) (w : Wires K) (p : Processor) (v : Wires K) (d : Did) : Type 0 where
   pub processor : p ≡ after (cycle_of (seen_of cpu w))
   pub did : d ≡ (cycle_of (seen_of cpu w)).did
   pub wires : v ≡ after_calls (cycle_of (seen_of cpu w)).effect.port (cycle_of (seen_of cpu w)).effect.write w
 
-abbrev pub Answers : Processor → Wires → Bool → Bool → Processor → Wires → Did → Type 0
+abbrev pub Answers : {K : Type 0} → Processor → Wires K → Bool → Bool → Processor → Wires K → Did → Type 0
 Answers cpu w dma int p v did =
     (taken : ℕ) × (let c = cycle cpu (bytes w) (flags w) dma int taken in (p ≡ after c) × (did ≡ c.did) × Acts Writes Sends Receives c.effect taken w v)
 
-made_at : (cpu : Processor) (w : Wires) (p : Processor) (v : Wires) (did : Did)
+made_at : {K : Type 0} (cpu : Processor) (w : Wires K) (p : Processor) (v : Wires K) (did : Did)
     → Answers cpu w (dma_at w.video.cycles w.video.on) (int_at w.video.cycles w.video.on) p v did → Made cpu w p v did
 made_at cpu w p v did h =
     let taken = h.0 in
@@ -98,7 +98,7 @@ made_at cpu w p v did h =
       wires = calls.1 ∙ ap (λ n. after_calls (with_byte n).effect.port (with_byte n).effect.write w) calls.0;
     }
 
-pub made : (cpu : Processor) (w : Wires) (now : ℕ) (dma int : Bool) (p : Processor) (v : Wires) (did : Did) → now ≡ w.video.cycles
+pub made : {K : Type 0} (cpu : Processor) (w : Wires K) (now : ℕ) (dma int : Bool) (p : Processor) (v : Wires K) (did : Did) → now ≡ w.video.cycles
     → dma ≡ dma_at now w.video.on → int ≡ int_at now w.video.on → Answers cpu w dma int p v did → Made cpu w p v did
 made cpu w now dma int p v did n d i h =
     let D : Bool → Type 0 = λ x. Answers cpu w x int p v did in
@@ -113,7 +113,7 @@ first-calls NextInterrupt s m = (refl, refl)
 first-calls NextIdle s m = (refl, refl)
 first-calls NextFetch s m = (refl, refl)
 
-pub begun-made : (s : Seen) (cpu : Processor) (w : Wires) (dma int : Bool) (p : Processor) (did : Did) → seen_of cpu w ≡ s → s.phase ≡ Boundary
+pub begun-made : {K : Type 0} (s : Seen) (cpu : Processor) (w : Wires K) (dma int : Bool) (p : Processor) (did : Did) → seen_of cpu w ≡ s → s.phase ≡ Boundary
     → dma ≡ dma_at s.machine.cycle s.machine.on → int ≡ int_at s.machine.cycle s.machine.on
     → p ≡ after (begun cpu.regs (bytes w) dma int) → did ≡ (begun cpu.regs (bytes w) dma int).did → Made cpu w p w did
 begun-made s cpu w dma int p did view h d i is_p is_did =
@@ -152,7 +152,7 @@ by_requests : (phase : Phase) (s : Regs) (m : ℕ → ℕ) (f : ℕ → Bool) (d
 by_requests Boundary s m f dma int dma' int' taken going = absurd (going refl)
 by_requests (Middle opcode left) s m f dma int dma' int' taken going = refl
 
-pub made-on : (cpu : Processor) (w : Wires) (dma int : Bool) (p : Processor) (v : Wires) (did : Did) → (cpu.phase ≡ Boundary → ⊥)
+pub made-on : {K : Type 0} (cpu : Processor) (w : Wires K) (dma int : Bool) (p : Processor) (v : Wires K) (did : Did) → (cpu.phase ≡ Boundary → ⊥)
     → Answers cpu w dma int p v did → Made cpu w p v did
 made-on cpu w dma int p v did going h =
     let same = by_requests cpu.phase cpu.regs (bytes w) (flags w) dma int (dma_at w.video.cycles w.video.on) (int_at w.video.cycles w.video.on) h.0 going in
@@ -168,10 +168,10 @@ executes (Middle opcode left) s m f dma int taken going = by_last (left == 1)
     by_last false = refl
 
 -- it puts no byte on the bus
-pub no-byte : (cpu : Processor) (w : Wires) (p : Processor) (v : Wires) (did : Did) → (cpu.phase ≡ Boundary → ⊥) → Made cpu w p v did → None ≡ byte_in did
+pub no-byte : {K : Type 0} (cpu : Processor) (w : Wires K) (p : Processor) (v : Wires K) (did : Did) → (cpu.phase ≡ Boundary → ⊥) → Made cpu w p v did → None ≡ byte_in did
 no-byte cpu w p v did going m = sym (ap byte_in (m.did ∙ executes cpu.phase cpu.regs _ _ _ _ _ going))
 
 -- the video chip ends the cycle
-pub seen_after : (cpu : Processor) (w : Wires) (p : Processor) (v : Wires) (did : Did) (byte : Option ℕ) (chip : Chip) → w.video.cycle_on ≡ w.video.on
+pub seen_after : {K : Type 0} (cpu : Processor) (w : Wires K) (p : Processor) (v : Wires K) (did : Did) (byte : Option ℕ) (chip : Chip) → w.video.cycle_on ≡ w.video.on
     → Made cpu w p v did → byte ≡ byte_in did → chip ≡ video_ended byte v.video → seen_of p (record v { video = chip }) ≡ cycled (seen_of cpu w)
 seen_after cpu w p v did byte chip on m b c = rw (c, b, m.processor, m.wires, m.did, on)

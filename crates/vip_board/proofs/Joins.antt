@@ -33,16 +33,16 @@ use Rattle.vip_board.proofs.Whole.{Fetches, fetched, fetches_of}
 
 -- ---- the calls on the wires of a joined board
 
-abbrev pub JoinedWrites : Joined → ℕ → ℕ → Joined → Type 0
+abbrev pub JoinedWrites : {K : Type 0} → Joined K → ℕ → ℕ → Joined K → Type 0
 JoinedWrites j a v k =
     (k.wires.ghost_name ≡ j.wires.ghost_name) × (k.wires.now ≡ after_write a v j.wires.now) × (k.incoming ≡ j.incoming) × (k.outgoing ≡ j.outgoing)
 
-abbrev pub JoinedSends : Joined → ℕ → ℕ → Joined → Type 0
+abbrev pub JoinedSends : {K : Type 0} → Joined K → ℕ → ℕ → Joined K → Type 0
 JoinedSends j p v k =
     (k.wires.ghost_name ≡ j.wires.ghost_name) × (k.wires.now ≡ after_port (Send p v) j.wires.now) × (k.incoming ≡ j.incoming)
     × (k.outgoing ≡ outgoing_after (Some (Send p v)) j.outgoing)
 
-abbrev pub JoinedReceives : Joined → ℕ → ℕ → Joined → Type 0
+abbrev pub JoinedReceives : {K : Type 0} → Joined K → ℕ → ℕ → Joined K → Type 0
 JoinedReceives j p v k =
     (v ≡ taken_at p j.incoming) × (k.wires.ghost_name ≡ j.wires.ghost_name) × (k.wires.now ≡ after_port (Receive p) j.wires.now)
     × (k.incoming ≡ incoming_after (Some (Receive p)) j.incoming) × (k.outgoing ≡ j.outgoing)
@@ -53,7 +53,7 @@ taken_by None incoming = 0
 taken_by (Some (Send p v)) incoming = 0
 taken_by (Some (Receive p)) incoming = taken_at p incoming
 
-record CallsMade (port : Option Port) (write : Option (ℕ × ℕ)) (taken : ℕ) (j k : Joined) : Type 0 where
+record CallsMade {K : Type 0} (port : Option Port) (write : Option (ℕ × ℕ)) (taken : ℕ) (j k : Joined K) : Type 0 where
   byte : taken ≡ taken_by port j.incoming
   wires : k.wires.now ≡ after_calls port write j.wires.now
   incoming : k.incoming ≡ incoming_after port j.incoming
@@ -62,15 +62,15 @@ record CallsMade (port : Option Port) (write : Option (ℕ × ℕ)) (taken : ℕ
 no_write : {x : ℕ × ℕ} → Some x ≡ None → ⊥
 no_write e = cc
 
-calls-made : (port : Option Port) (write : Option (ℕ × ℕ)) (taken : ℕ) (j k : Joined) → ((p v : ℕ) → port ≡ Some (Send p v) → write ≡ None)
+calls-made : {K : Type 0} (port : Option Port) (write : Option (ℕ × ℕ)) (taken : ℕ) (j k : Joined K) → ((p v : ℕ) → port ≡ Some (Send p v) → write ≡ None)
     → Calls JoinedWrites JoinedSends JoinedReceives port write taken j k → CallsMade port write taken j k
 calls-made None None taken j k a c =
     record {
       byte = c.0;
-      wires = ap (λ (x : Joined). x.wires.now) c.1;
-      incoming = ap (λ (x : Joined). x.incoming) c.1;
+      wires = ap (λ (x : Joined _). x.wires.now) c.1;
+      incoming = ap (λ (x : Joined _). x.incoming) c.1;
       outgoing =
-          ap (λ (x : Joined). x.outgoing) c.1;
+          ap (λ (x : Joined _). x.outgoing) c.1;
     }
 calls-made None (Some x) taken j k a c = record { byte = c.0; wires = c.1.1; incoming = c.1.2; outgoing = c.1.3 }
 calls-made (Some (Send p v)) None taken j k a c = record { byte = c.0; wires = c.1.1; incoming = c.1.2; outgoing = c.1.3 }
@@ -87,13 +87,13 @@ effect-takes _ n s i incoming h = refl
 
 -- ---- the last cycle of an instruction
 
-pub record MadeLast (cpu : Processor) (w : Wires) (incoming outgoing : Option ℕ) (p : Processor) (v : Wires) (incoming' outgoing' : Option ℕ) : Type 0 where
+pub record MadeLast {K : Type 0} (cpu : Processor) (w : Wires K) (incoming outgoing : Option ℕ) (p : Processor) (v : Wires K) (incoming' outgoing' : Option ℕ) : Type 0 where
   pub processor : p ≡ after (last_cycle (seen_of cpu w) incoming outgoing)
   pub wires : v ≡ after_calls (last_cycle (seen_of cpu w) incoming outgoing).effect.port (last_cycle (seen_of cpu w) incoming outgoing).effect.write w
   pub incoming_is : incoming' ≡ incoming_after (last_cycle (seen_of cpu w) incoming outgoing).effect.port incoming
   pub outgoing_is : outgoing' ≡ outgoing_after (last_cycle (seen_of cpu w) incoming outgoing).effect.port outgoing
 
-module _ (j : Joined) where
+module _ {K : Type 0} (j : Joined K) where
   abbrev joined_bytes : ℕ → ℕ
   joined_bytes = read j.wires.now.memory.rom j.wires.now.memory.latch j.wires.now.memory.ram
 
@@ -102,15 +102,15 @@ module _ (j : Joined) where
       linked_flags (efx_at j.wires.now.video.cycles j.wires.now.video.on)
       (held_at j.wires.now.keypad.script j.wires.now.video.cycles j.wires.now.keypad.latched) j.incoming j.outgoing
 
-abbrev pub JoinedAnswers : Processor → Joined → Processor → Joined → Did → Type 0
+abbrev pub JoinedAnswers : {K : Type 0} → Processor → Joined K → Processor → Joined K → Did → Type 0
 JoinedAnswers cpu j p k did =
     (taken : ℕ) × (let c = cycle cpu (joined_bytes j) (joined_flags j) false false taken in
     (p ≡ after c) × (did ≡ c.did) × Acts JoinedWrites JoinedSends JoinedReceives c.effect taken j k)
 
-abbrev Lasts : Processor → Joined → Processor → Joined → Type 0
+abbrev Lasts : {K : Type 0} → Processor → Joined K → Processor → Joined K → Type 0
 Lasts cpu j p k = MadeLast cpu j.wires.now j.incoming j.outgoing p k.wires.now k.incoming k.outgoing
 
-made_in : (opcode : ℕ) (s : Regs) (j k : Joined) (p : Processor) (did : Did) → JoinedAnswers (record { regs = s; phase = Middle opcode 1 }) j p k did
+made_in : {K : Type 0} (opcode : ℕ) (s : Regs) (j k : Joined K) (p : Processor) (did : Did) → JoinedAnswers (record { regs = s; phase = Middle opcode 1 }) j p k did
     → Lasts (record { regs = s; phase = Middle opcode 1 }) j p k
 made_in opcode s j k p did h =
     let taken = h.0 in
@@ -128,7 +128,7 @@ made_in opcode s j k p did h =
       outgoing_is = calls.outgoing ∙ ap (λ (e : Effect). outgoing_after e.port j.outgoing) same;
     }
 
-pub made-last : (opcode : ℕ) (cpu : Processor) (j k : Joined) (p : Processor) (did : Did) → cpu.phase ≡ Middle opcode 1 → JoinedAnswers cpu j p k did
+pub made-last : {K : Type 0} (opcode : ℕ) (cpu : Processor) (j k : Joined K) (p : Processor) (did : Did) → cpu.phase ≡ Middle opcode 1 → JoinedAnswers cpu j p k did
     → Lasts cpu j p k
 made-last opcode cpu j k p did e h =
     let P : Phase → Type 0 =
@@ -136,7 +136,7 @@ made-last opcode cpu j k p did e h =
     subst P (sym e) (made_in opcode cpu.regs j k p did) h
 
 -- the video chip ends the cycle
-pub seen-last : (cpu : Processor) (w : Wires) (incoming outgoing : Option ℕ) (p : Processor) (v : Wires) (incoming' outgoing' : Option ℕ)
+pub seen-last : {K : Type 0} (cpu : Processor) (w : Wires K) (incoming outgoing : Option ℕ) (p : Processor) (v : Wires K) (incoming' outgoing' : Option ℕ)
     (chip : Chip) → w.video.cycle_on ≡ w.video.on
     → MadeLast cpu w incoming outgoing p v incoming' outgoing' → chip ≡ video_ended None v.video
     → seen_of p (record v { video = chip }) ≡ last_cycled (seen_of cpu w) incoming outgoing

@@ -77,11 +77,11 @@ some_cycles true = omega arith
 some_cycles false = omega arith
 
 -- what the processor and the wires are after it
-abbrev pub Did : Processor → Wires → ℕ → Processor → Wires → ℕ → Type 0
+abbrev pub Did : {K : Type 0} → Processor → Wires K → ℕ → Processor → Wires K → ℕ → Type 0
 Did cpu w taken q v opcode =
     let c = ended opcode (stepped cpu.regs cpu.regs.p) (bytes w) (flags w) taken in (q ≡ after c) × Acts Writes Sends Receives c.effect taken w v
 
-module _ (cpu : Processor) (w v : Wires) (taken : ℕ) (q : Processor) (opcode : ℕ) (plain : is_plain (kind_of opcode) ≡ true) (did : Did cpu w taken q v opcode) where
+module _ {K : Type 0} (cpu : Processor) (w v : Wires K) (taken : ℕ) (q : Processor) (opcode : ℕ) (plain : is_plain (kind_of opcode) ≡ true) (did : Did cpu w taken q v opcode) where
   abbrev pub regs : Regs
   regs = stepped cpu.regs cpu.regs.p
 
@@ -169,7 +169,7 @@ module _ (cpu : Processor) (w v : Wires) (taken : ℕ) (q : Processor) (opcode :
           ∙ moves
 
 -- said of a board
-pub plain-works : (cpu : Processor) (w v : Wires) (s : Seen) (n opcode taken : ℕ) (q : Processor) → seen_of cpu w ≡ s → s.phase ≡ Boundary
+pub plain-works : {K : Type 0} (cpu : Processor) (w v : Wires K) (s : Seen) (n opcode taken : ℕ) (q : Processor) → seen_of cpu w ≡ s → s.phase ≡ Boundary
     → s.machine.regs.idle ≡ false → opcode ≡ read w.memory.rom w.memory.latch w.memory.ram (at s.machine.regs s.machine.regs.p) → n ≡ cycles_of opcode
     → is_plain (kind_of opcode) ≡ true → Did cpu w taken q v opcode → Works n s (seen_of q v)
 plain-works cpu w v s n opcode taken q view h active op long plain did =
@@ -182,9 +182,9 @@ plain-works cpu w v s n opcode taken q view h active op long plain did =
     subst (λ x. Works n x (seen_of q v)) view
     (record {
       moved = λ p quiet. whole cpu w v taken q opcode plain did p n phase rests same long quiet some;
-      cycle = ap (λ (x : Wires). x.video.cycles) wires;
-      on = ap (λ (x : Wires). x.video.on) wires;
+      cycle = ap (λ (x : Wires _). x.video.cycles) wires;
+      on = ap (λ (x : Wires _). x.video.on) wires;
       awake = awake cpu w v taken q opcode plain did;
       phase = ap (λ (x : Processor). x.phase) did.0 ∙ sym phase;
-      pictures = ap (λ (x : Wires). x.video.pictures) wires;
+      pictures = ap (λ (x : Wires _). x.video.pictures) wires;
     })

@@ -78,7 +78,7 @@ scanned-by s h count dma (suc n) l =
     ∙ ap moved before
 
 -- the same of a board by its parts, of which the processor has taken the bytes
-module _ (cpu : Processor) (w : Wires) (chip : Chip) (s : Seen) (n : ℕ) (bytes : List ℕ) (view : seen_of cpu w ≡ taken_by n s) (switch : w.video.cycle_on ≡ w.video.on)
+module _ {K : Type 0} (cpu : Processor) (w : Wires K) (chip : Chip) (s : Seen) (n : ℕ) (bytes : List ℕ) (view : seen_of cpu w ≡ taken_by n s) (switch : w.video.cycle_on ≡ w.video.on)
     (are : bytes ≡ dma_bytes n s) (ends : chip ≡ ended_with bytes w.video) where
   pub scan-switch : chip.cycle_on ≡ chip.on
   scan-switch = subst (λ (x : Chip). x.cycle_on ≡ x.on) (sym ends) (switches bytes w.video switch)

@@ -68,7 +68,7 @@ rested-aside n s before h idle quiet k some below =
     not_both e = cc
 
 -- said of a board by its parts
-module _ (cpu : Processor) (w : Wires) (s : Seen) (view : seen_of cpu w ≡ s) (h : s.phase ≡ Boundary) (idle : cpu.regs.idle ≡ true) (n : ℕ)
+module _ {K : Type 0} (cpu : Processor) (w : Wires K) (s : Seen) (view : seen_of cpu w ≡ s) (h : s.phase ≡ Boundary) (idle : cpu.regs.idle ≡ true) (n : ℕ)
     (quiet : (k : ℕ) → k < n → IsQuiet w.video.on w.video.cycle_on w.video.pictures.shown (w.video.cycles + k)) where
   phase : (seen_of cpu w).phase ≡ Boundary
   phase = ap (λ (x : Seen). x.phase) view ∙ h

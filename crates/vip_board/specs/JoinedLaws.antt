@@ -9,20 +9,20 @@ use Rattle.vip_board.specs.Wired.{after_port, after_write}
 use Rattle.vip_board.specs.Laws.{write-keeps, write-puts, receive-keeps}
 use Rattle.vip_board.specs.declared.port.Joined.{Joined}
 
-pub joined-write-keeps : (j : Joined) (a v : ℕ) (k : Joined)
+pub joined-write-keeps : {K : Type 0} (j : Joined K) (a v : ℕ) (k : Joined K)
     → (k.wires.ghost_name ≡ j.wires.ghost_name) × (k.wires.now ≡ after_write a v j.wires.now) × (k.incoming ≡ j.incoming) × (k.outgoing ≡ j.outgoing)
     → (i : ℕ) → i ≢ a → read k.wires.now.memory.rom k.wires.now.memory.latch k.wires.now.memory.ram i
     ≡ read j.wires.now.memory.rom j.wires.now.memory.latch j.wires.now.memory.ram i
 joined-write-keeps j a v k e i h = write-keeps j.wires.now a v k.wires.now e.1 i h
 
-pub joined-write-puts : (j : Joined) (a v : ℕ) (k : Joined)
+pub joined-write-puts : {K : Type 0} (j : Joined K) (a v : ℕ) (k : Joined K)
     → (k.wires.ghost_name ≡ j.wires.ghost_name) × (k.wires.now ≡ after_write a v j.wires.now) × (k.incoming ≡ j.incoming) × (k.outgoing ≡ j.outgoing)
     → (read k.wires.now.memory.rom k.wires.now.memory.latch k.wires.now.memory.ram a ≡ v)
     ⊎ (read k.wires.now.memory.rom k.wires.now.memory.latch k.wires.now.memory.ram a
     ≡ read j.wires.now.memory.rom j.wires.now.memory.latch j.wires.now.memory.ram a)
 joined-write-puts j a v k e = write-puts j.wires.now a v k.wires.now e.1
 
-pub joined-receive-keeps : (j : Joined) (p v : ℕ) (k : Joined)
+pub joined-receive-keeps : {K : Type 0} (j : Joined K) (p v : ℕ) (k : Joined K)
     → (v ≡ taken_at p j.incoming) × (k.wires.ghost_name ≡ j.wires.ghost_name) × (k.wires.now ≡ after_port (Receive p) j.wires.now)
     × (k.incoming ≡ incoming_after (Some (Receive p)) j.incoming) × (k.outgoing ≡ j.outgoing) → (i : ℕ)
     → read k.wires.now.memory.rom k.wires.now.memory.latch k.wires.now.memory.ram i

@@ -36,15 +36,15 @@ puts ram rom false a v =
     ≡ cond b (slice_index ram a) (cond (nat_le 32768 a && nat_lt a 34816) (slice_index rom (a - 32768)) 255)))
     [ true ↦ same_or_put ram a v | false ↦ inr refl ]
 
-pub write-keeps : (b : Wires) (a v : ℕ) (c : Wires) → c ≡ after_write a v b → (k : ℕ) → k ≢ a
+pub write-keeps : {K : Type 0} (b : Wires K) (a v : ℕ) (c : Wires K) → c ≡ after_write a v b → (k : ℕ) → k ≢ a
     → read c.memory.rom c.memory.latch c.memory.ram k ≡ read b.memory.rom b.memory.latch b.memory.ram k
-write-keeps b a v c e k h = ap (λ (w : Wires). read w.memory.rom w.memory.latch w.memory.ram k) e ∙ read-keeps b.memory.ram b.memory.rom b.memory.latch a v k h
+write-keeps b a v c e k h = ap (λ (w : Wires _). read w.memory.rom w.memory.latch w.memory.ram k) e ∙ read-keeps b.memory.ram b.memory.rom b.memory.latch a v k h
 
-pub write-puts : (b : Wires) (a v : ℕ) (c : Wires) → c ≡ after_write a v b
+pub write-puts : {K : Type 0} (b : Wires K) (a v : ℕ) (c : Wires K) → c ≡ after_write a v b
     → (read c.memory.rom c.memory.latch c.memory.ram a ≡ v)
     ⊎ (read c.memory.rom c.memory.latch c.memory.ram a ≡ read b.memory.rom b.memory.latch b.memory.ram a)
 write-puts b a v c e = rw e (puts b.memory.ram b.memory.rom b.memory.latch a v)
 
-pub receive-keeps : (b : Wires) (p v : ℕ) (c : Wires) → (v ≡ 0) × (c ≡ after_port (Receive p) b) → (k : ℕ)
+pub receive-keeps : {K : Type 0} (b : Wires K) (p v : ℕ) (c : Wires K) → (v ≡ 0) × (c ≡ after_port (Receive p) b) → (k : ℕ)
     → read c.memory.rom c.memory.latch c.memory.ram k ≡ read b.memory.rom b.memory.latch b.memory.ram k
-receive-keeps b p v c e k = ap (λ (w : Wires). read w.memory.rom w.memory.latch w.memory.ram k) e.1
+receive-keeps b p v c e k = ap (λ (w : Wires _). read w.memory.rom w.memory.latch w.memory.ram k) e.1

@@ -8,7 +8,7 @@ use Rattle.vip_board.specs.Seen.{Seen}
 use Rattle.vip_board.specs.declared.wires.Wires.{Wires}
 
 -- the board of a processor and what it is wired to
-abbrev pub seen_of : Processor → Wires → Seen
+abbrev pub seen_of : {K : Type 0} → Processor → Wires K → Seen
 seen_of cpu w =
     record {
       machine =
@@ -27,7 +27,7 @@ seen_of cpu w =
     }
 
 -- after an action at a port, and after a write
-abbrev pub after_port : Port → Wires → Wires
+abbrev pub after_port : {K : Type 0} → Port → Wires K → Wires K
 after_port p w =
     record w {
       video = record w.video { on = on_after (Some p) w.video.on };
@@ -35,11 +35,11 @@ after_port p w =
       memory = record w.memory { latch = latch_after (Some p) w.memory.latch };
     }
 
-abbrev pub after_write : ℕ → ℕ → Wires → Wires
+abbrev pub after_write : {K : Type 0} → ℕ → ℕ → Wires K → Wires K
 after_write address value w = record w { memory = record w.memory { ram = written w.memory.latch w.memory.ram address value } }
 
 -- after at most one of each: the write goes by the latch before
-abbrev pub after_calls : Option Port → Option (ℕ × ℕ) → Wires → Wires
+abbrev pub after_calls : {K : Type 0} → Option Port → Option (ℕ × ℕ) → Wires K → Wires K
 after_calls port write w =
     record w {
       video = record w.video { on = on_after port w.video.on };

@@ -15,7 +15,7 @@ use std::alloc::{AllocError, Global};
 use std::marker::Model;
 use vip_cpu::{Bus, Cpu, Did, Next, Parts, Phase, plain_cycles};
 use vip_isa::cycles;
-use vip_keypad::{Keypad, Script};
+use vip_keypad::{Keypad, Keys, Script};
 use vip_memory::Memory;
 use vip_video::{Requests, Video};
 
@@ -64,7 +64,7 @@ fn memory_with(alloc: Global, rom: &[u8], ram: &[u8], latch: bool) -> Result<Mem
 }
 
 /// A keypad with a key script and a latched key, below 16.
-fn keypad_with(alloc: Global, script: &Script, key: u8) -> Result<Keypad, AllocError>
+fn keypad_with(alloc: Global, script: &Script, key: u8) -> Result<Keypad<Script>, AllocError>
     requires { key < 16 }
     ensures { IfOk result (λ k. k ≡ record { script = script.now; latched = key }) }
 {
@@ -83,14 +83,14 @@ fn byte_in(did: Did) -> Option<u8>
     }
 }
 
-/// A board with its ROM and its key script.
+/// A board with its ROM and what holds its keys down: a key script, where nothing else is said.
 #[derive(Drop)]
-pub struct Board {
+pub struct Board<K: Keys = Script> {
     cpu: Cpu,
-    wires: Wires,
+    wires: Wires<K>,
 }
 
-impl Model for Board {
+impl<K: Keys> Model for Board<K> {
     ghost use Rattle.std.specs.Prelude.{◌≡◌};
     ghost use Rattle.vip_board.specs.Seen.{Seen};
 
@@ -103,15 +103,13 @@ impl Model for Board {
     ghost invariant = { λ a. a.wires.video.cycle_on ≡ a.wires.video.on };
 }
 
-impl Board {
+impl Board<Script> {
     ghost use Rattle.machine.specs.Board.{after_reset};
-    ghost use Rattle.vip_memory.specs.Contents.{loaded};
     ghost use Rattle.vip_cpu.specs.Parts.{regs_of};
     ghost use Rattle.vip_video.specs.Chip.{nothing_yet, nothing_before};
-    ghost use Rattle.vip_board.specs.Seen.{cycle_of, cycled};
 
     /// A board after reset, at a boundary, with a ROM of 2,048 bytes and a key script.
-    pub fn reset(alloc: Global, rom: &[u8], script: &Script) -> Result<Board, AllocError>
+    pub fn reset(alloc: Global, rom: &[u8], script: &Script) -> Result<Board<Script>, AllocError>
         requires { length rom.now ≡ 0x800 }
         ensures board { IfOk result (λ b. b ≡ record { machine = after_reset; phase = Phase.Boundary; pictures = nothing_yet; rom = rom.now; script = script.now }) }
         ensures pictures { IfOk result (λ b. HasPictures b.rom [] b.machine.cycle b.pictures) }
@@ -143,7 +141,7 @@ impl Board {
         ram: &[u8],
         key: u8,
         t: u64,
-    ) -> Result<Board, AllocError>
+    ) -> Result<Board<Script>, AllocError>
         requires rom { length rom.now ≡ 0x800 }
         requires ram { length ram.now ≡ 0x1000 }
         requires key { key < 16 }
@@ -173,7 +171,7 @@ impl Board {
         key: u8,
         t: u64,
         switches: Switches,
-    ) -> Result<Board, AllocError>
+    ) -> Result<Board<Script>, AllocError>
         requires rom { length rom.now ≡ 0x800 }
         requires ram { length ram.now ≡ 0x1000 }
         requires key { key < 16 }
@@ -195,6 +193,28 @@ impl Board {
                 keypad,
             },
         })
+    }
+}
+
+impl<K: Keys> Board<K> {
+    ghost use Rattle.vip_memory.specs.Contents.{loaded};
+    ghost use Rattle.vip_board.specs.Seen.{cycle_of, cycled};
+
+    /// A board of these chips, which stand where they stand: its cycle is that of the video chip, whose display is as it was when the
+    /// last cycle ended. It needs no allocator.
+    #[inline(always)]
+    pub fn of(cpu: Cpu, memory: Memory, video: Video, keypad: Keypad<K>) -> Board<K>
+        requires { video.cycle_on ≡ video.on }
+        ensures { result ≡ record { machine = record { regs = cpu.regs; ram = memory.ram; latch = memory.latch; on = video.on; key = keypad.latched; cycle = video.cycles }; phase = cpu.phase; pictures = video.pictures; rom = memory.rom; script = keypad.script } }
+    {
+        Board {
+            cpu,
+            wires: Wires {
+                memory,
+                video,
+                keypad,
+            },
+        }
     }
 
     /// Puts bytes into RAM from an address on, whatever the latch is. They have to fit below address 1000.
@@ -234,7 +254,7 @@ impl Board {
     }
 
     /// The keypad.
-    pub fn keypad(&self) -> &Keypad
+    pub fn keypad(&self) -> &Keypad<K>
         ensures { result.now ≡ record { script = self.now.script; latched = self.now.machine.key } }
     {
         &self.wires.keypad
@@ -299,7 +319,7 @@ impl Board {
     }
 }
 
-impl Board {
+impl<K: Keys> Board<K> {
     ghost use Rattle.machine.specs.Board.{length_of};
     ghost use Rattle.vip_board.specs.Moves.{name_of, moved, moved_by, sleeps, IfDone, StartsInstruction, Aside, Made, Works, Worked, taken_by, dma_bytes};
     ghost use Rattle.vip_board.specs.Seen.{contents_of};
@@ -644,7 +664,7 @@ impl Board {
     }
 }
 
-impl Board {
+impl<K: Keys> Board<K> {
     ghost use Rattle.vip_board.specs.Moves.{name_of};
     ghost use Rattle.vip_board.specs.Linked.{incoming_after, outgoing_after};
     ghost use Rattle.vip_board.specs.Joins.{linked, linked_moved, IsLast, last_cycle, last_cycled};

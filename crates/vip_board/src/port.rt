@@ -5,6 +5,7 @@ ghost use Rattle.std.specs.Prelude.{◌≡◌, None};
 use crate::wires::Wires;
 use std::marker::Model;
 use vip_cpu::Bus;
+use vip_keypad::Keys;
 
 /// A wire from one board to another. It is empty, or holds one byte.
 ///
@@ -48,13 +49,13 @@ impl Wire {
 /// The wires of a board that is joined to another one, in the last machine cycle of an instruction: EF2 is whether the incoming wire is
 /// full, and EF4 whether the outgoing one is. The rest is as on a board alone.
 #[derive(Drop)]
-pub struct Joined<'a> {
-    pub wires: &'a mut Wires,
+pub struct Joined<'a, K: Keys> {
+    pub wires: &'a mut Wires<K>,
     pub incoming: Option<u8>,
     pub outgoing: Option<u8>,
 }
 
-impl Bus for Joined<'_> {
+impl<K: Keys> Bus for Joined<'_, K> {
     ghost use Rattle.std.specs.Prelude.{◌≡◌, Some};
     ghost use Rattle.machine.specs.Keys.{held_at};
     ghost use Rattle.machine.specs.Signals.{efx_at};

@@ -1,20 +1,20 @@
 //! What the processor is wired to.
 
 use vip_cpu::Bus;
-use vip_keypad::Keypad;
+use vip_keypad::{Keypad, Keys, Script};
 use vip_memory::Memory;
 use vip_video::Video;
 
 /// Memory, the video chip, and the keypad. The flags are those of the present cycle: EF1 is EFX, and EF3 is whether the latched
 /// key is held down.
 #[derive(Drop)]
-pub struct Wires {
+pub struct Wires<K: Keys = Script> {
     pub memory: Memory,
     pub video: Video,
-    pub keypad: Keypad,
+    pub keypad: Keypad<K>,
 }
 
-impl Bus for Wires {
+impl<K: Keys> Bus for Wires<K> {
     ghost use Rattle.std.specs.Prelude.{◌≡◌};
     ghost use Rattle.machine.specs.Keys.{held_at};
     ghost use Rattle.machine.specs.Signals.{efx_at};

@@ -4,3 +4,4 @@ pub mod KeypadState
 pub mod Stretches
 pub mod Entries
 pub mod FaultNames
+pub mod Held

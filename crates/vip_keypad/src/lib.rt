@@ -12,9 +12,13 @@
 
 mod key_set;
 mod keypad;
+mod keys;
 mod line;
 mod script;
 mod stretch;
 
+pub use key_set::KeySet;
 pub use keypad::Keypad;
+pub use keys::Keys;
 pub use script::{MOST_EVENTS, Script, ScriptCause, ScriptFault, read_script};
+pub use stretch::Stretch;

@@ -123,7 +123,7 @@ impl Script {
     }
 
     // Whether the key is held down at cycle t.
-    pub(crate) fn is_held(&self, t: u64, key: u8) -> bool
+    pub(crate) fn is_down(&self, t: u64, key: u8) -> bool
         requires { key < 16 }
         ensures { result ≡ held_at self.now t key }
     {
@@ -131,10 +131,10 @@ impl Script {
     }
 
     // The stretch of cycles about cycle t, from the last event at or before it up to the next one.
-    pub(crate) fn stretch_at(&self, t: u64) -> Stretch
+    pub(crate) fn stretch_about(&self, t: u64) -> Stretch
         ensures { HoldsIn self.now result }
     {
-        stretch_about(self.entries.as_slice(), t)
+        stretch_in(self.entries.as_slice(), t)
     }
 
     // A copy of the script.
@@ -205,7 +205,7 @@ fn keys_at(entries: &[Entry], t: u64) -> KeySet
 }
 
 // The stretch from the last entry at or before cycle t up to the next one.
-fn stretch_about(entries: &[Entry], t: u64) -> Stretch
+fn stretch_in(entries: &[Entry], t: u64) -> Stretch
     requires { AreSearchable entries.now }
     ensures { HoldsIn (map event_of_entry entries.now) result }
 {

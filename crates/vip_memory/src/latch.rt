@@ -1,6 +1,6 @@
 //! The boot latch.
 
-ghost use Rattle.std.specs.Prelude.{◌≡◌, true, false};
+ghost use Rattle.std.specs.Prelude.{◌≡◌, false};
 ghost use Rattle.machine.specs.Memory.{mapped_address};
 
 use std::marker::Model;
@@ -23,11 +23,14 @@ impl Model for Latch {
 }
 
 impl Latch {
-    /// A latch that is set.
-    pub fn set() -> Latch
-        ensures { result ≡ true }
+    /// A latch that is set, or clear.
+    #[inline(always)]
+    pub fn of(set: bool) -> Latch
+        ensures { result ≡ set }
     {
-        Latch { bits: 0x8000 }
+        Latch {
+            bits: if set { 0x8000 } else { 0 },
+        }
     }
 
     /// Clears it.

@@ -9,6 +9,7 @@ use chip8_image::Places;
 use chip8_lang::{Edition, Stop};
 use vip_board::Board;
 use vip_cpu::Phase;
+use vip_keypad::Keys;
 
 /// A dispatch point, a stop point, or neither.
 #[derive(Clone, Copy)]
@@ -19,7 +20,7 @@ pub enum Point {
 }
 
 /// What the state of a board at a boundary is.
-pub fn point_at(edition: Edition, board: &Board) -> Point
+pub fn point_at<K: Keys>(edition: Edition, board: &Board<K>) -> Point
     requires { board.now.phase ≡ Phase.Boundary }
     ensures { result ≡ point_of (interpreter_of edition) board.now.machine }
 {

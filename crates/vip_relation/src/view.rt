@@ -12,6 +12,7 @@ use arrayvec::ArrayVec;
 use chip8_image::{GAME, Places, RAM_END, RANDOM_CELL, STOP_CELL};
 use chip8_lang::{Edition, StateView};
 use vip_board::Board;
+use vip_keypad::Keys;
 use vip_memory::Memory;
 
 /// The most addresses on the stack.
@@ -25,7 +26,7 @@ const MOST_SCREEN: usize = 512;
 
 /// The view of the language state that is read off a board.
 #[inline(never)]
-pub fn view(edition: Edition, board: &Board) -> StateView
+pub fn view<K: Keys>(edition: Edition, board: &Board<K>) -> StateView
     ensures { seen result ≡ view_at edition board.now.machine }
 {
     let cpu = board.cpu();
@@ -95,7 +96,7 @@ fn put(into: &mut Screen, bytes: &[u8])
 }
 
 /// The number of the stop that a stopped board keeps in its cell.
-pub fn stop_number(board: &Board) -> u8
+pub fn stop_number<K: Keys>(board: &Board<K>) -> u8
     ensures { result ≡ slice_index board.now.machine.ram 0x01F0 }
 {
     ram_byte(board.memory(), STOP_CELL)

@@ -1,9 +1,13 @@
 //! Pictures, and the buffer in which one is drawn.
 
-ghost use Rattle.std.specs.Prelude.{◌≡◌, ◌+◌, ◌≤◌, ◌<◌, ◌++◌, ℕ, List, [], length, map, replicate, slice_index_or, slice_set, IfSome};
+ghost use Rattle.std.specs.Prelude.{◌≡◌, ◌+◌, ◌≤◌, ◌<◌, ◌++◌, ℕ, List, [], length, map, replicate, slice_index_or, slice_set, take, IfSome};
 ghost use Rattle.machine.specs.Pictures.{filled};
 ghost use Rattle.vip_video.specs.Chip.{blank, with_bytes, with_byte};
+ghost use Rattle.vip_video.specs.Kept.{HasRoom};
+ghost use Rattle.vip_video.specs.Place.{frame_place};
+ghost use Rattle.vip_video.specs.Lines.{so_far, AreFilled};
 
+use crate::place::Place;
 use std::marker::Model;
 
 /// A picture: 128 lines of 8 bytes, the top line first, and in a byte the highest bit leftmost.
@@ -71,6 +75,51 @@ impl FrameBuffer {
             picture: Picture::blank(),
             lengths: no_bytes(),
         }
+    }
+
+    /// A buffer with these bytes in each line, of which so many have come, and the others are 00.
+    #[inline(always)]
+    pub fn of(lines: &[[u8; 8]; 128], lengths: &[u8; 128]) -> FrameBuffer
+        requires { AreFilled lines.now lengths.now }
+        ensures { result ≡ so_far lines.now lengths.now }
+    {
+        FrameBuffer {
+            picture: Picture { lines: *lines },
+            lengths: *lengths,
+        }
+    }
+
+    /// The bytes of each line, filled with 00 up to eight, and how many have come in each.
+    #[inline(always)]
+    pub fn parts(&self) -> (&[[u8; 8]; 128], &[u8; 128])
+        ensures lines { so_far result.0.now result.1.now ≡ self.now }
+        ensures filled { AreFilled result.0.now result.1.now }
+    {
+        (&self.picture.lines, &self.lengths)
+    }
+
+    /// A buffer for a frame in which cycle t comes next, with the first bytes of each line: as many as there are by `lengths`, and at most as
+    /// many as the DMA cycles before cycle t can have given.
+    pub fn restore(place: &Place, lines: &[[u8; 8]; 128], lengths: &[u8; 128]) -> FrameBuffer
+        ensures { (t : ℕ) → place.now ≡ frame_place t → HasRoom t result }
+    {
+        let mut buffer = FrameBuffer::new();
+        for line in 0..128 {
+            let count = lengths[usize::from(line)].min(place.most_bytes(line));
+            buffer.begin(line, lines[usize::from(line)], count);
+        }
+        buffer
+    }
+
+    /// Adds the first `count` of eight bytes to a line, 0 to 127, that has none.
+    #[inline(always)]
+    fn begin(&mut self, line: u16, bytes: [u8; 8], count: u8)
+        requires line { line < 128 }
+        requires count { count ≤ 8 }
+        requires empty { length (slice_index_or self.old line []) ≡ 0 }
+        ensures { self.new ≡ with_bytes line (take count bytes) self.old }
+    {
+        self.extend(line, &bytes[..usize::from(count)]);
     }
 
     /// Adds a byte, if there is one, to a line, 0 to 127, that has fewer than eight.

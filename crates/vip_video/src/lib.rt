@@ -22,11 +22,13 @@
 #![tactic(auto)]
 
 mod buffer;
+mod parts;
 mod place;
 mod raster;
 mod video;
 
 pub use buffer::Picture;
+pub use parts::VideoParts;
 pub use place::{
     FRAME_CYCLES, FRAME_LINES, INTERRUPT_CYCLE, INTERRUPT_LINE, LINE_CYCLES, Requests, Signals,
     WINDOW_END_CYCLE, WINDOW_END_LINE, WINDOW_LINE,

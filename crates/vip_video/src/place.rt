@@ -1,6 +1,6 @@
 //! A place in the frame, and the signals there. The exact places are this project's profile.
 
-ghost use Rattle.std.specs.Prelude.{◌≡◌, ◌+◌, ◌≤◌, ◌<◌, ℕ};
+ghost use Rattle.std.specs.Prelude.{◌≡◌, ◌+◌, ◌-◌, ◌≤◌, ◌<◌, ℕ};
 ghost use Rattle.machine.specs.Signals.{window_line, window_end_line, int_at, dma_at, efx_at};
 ghost use Rattle.vip_video.specs.Place.{frame_place};
 ghost use Rattle.vip_video.specs.Quiet.{HasNothing, IsDark, RequestsDma};
@@ -181,6 +181,23 @@ impl Place {
             (LINE + first).saturating_sub(column)
         } else {
             (LINE - 1).saturating_sub(column)
+        }
+    }
+
+    /// The most bytes that a line of the picture, 0 to 127, can have here: those of its DMA cycles before.
+    #[inline(always)]
+    pub fn most_bytes(&self, line: u16) -> u8
+        requires { line < 128 }
+        ensures few { result ≤ 8 }
+        ensures later { self.now.line < window_line + line → result ≡ 0 }
+        ensures present { self.now.line ≡ window_line + line → result ≤ self.now.column - 2 }
+    {
+        if self.line < WINDOW_LINE + line {
+            0
+        } else if self.line == WINDOW_LINE + line {
+            self.column.saturating_sub(DMA_COLUMN).min(8)
+        } else {
+            8
         }
     }
 

@@ -1,12 +1,16 @@
 //! The picture that is drawn and the last one that was finished.
 
-ghost use Rattle.std.specs.Prelude.{◌≡◌, ◌+◌, ◌-◌, ◌%◌, ◌≤◌, ◌<◌, ◌^◌, ◌↔◌, ◌&&◌, ◌||◌, not, ℕ, [], length, slice_index_or, IfSome, IsSome};
+ghost use Rattle.std.specs.Prelude.{min, ◌≡◌, ◌+◌, ◌-◌, ◌%◌, ◌≤◌, ◌<◌, ◌^◌, ◌↔◌, ◌&&◌, ◌||◌, not, ◌==◌, if◌then◌else◌, ℕ, [], length, slice_index_or, None, Some, IfSome, IsSome};
 ghost use Rattle.std.specs.Option.{option_map};
 ghost use Rattle.machine.specs.Signals.{line_cycles, window_line, window_end_line, line_of};
+ghost use Rattle.vip_video.specs.Lines.{AreFilled};
+ghost use Rattle.vip_video.specs.Parts.{chip_of};
 ghost use Rattle.vip_video.specs.Place.{frame_place};
+ghost use Rattle.vip_video.specs.Kept.{HasRoom};
 ghost use Rattle.vip_video.specs.Chip.{needs_display, nothing_yet, with_bytes, drawn, passed, framed, finished};
 
 use crate::buffer::{FrameBuffer, Picture};
+use crate::parts::VideoParts;
 use crate::place::{Place, WINDOW_END_LINE, WINDOW_LINE};
 use std::marker::Model;
 
@@ -48,6 +52,61 @@ impl Raster {
             buffer: FrameBuffer::new(),
             count: 0,
             finished: Picture::blank(),
+        }
+    }
+
+    /// What a chip of these parts has of pictures.
+    #[inline(always)]
+    pub fn from_parts(parts: &VideoParts) -> Raster
+        requires { AreFilled parts.now.lines parts.now.lengths }
+        ensures { result ≡ (chip_of parts.now).pictures }
+    {
+        Raster {
+            shown: parts.shown,
+            buffer: FrameBuffer::of(&parts.lines, &parts.lengths),
+            count: parts.count,
+            finished: Picture {
+                lines: parts.finished,
+            },
+        }
+    }
+
+    /// The DMA bytes of this frame so far.
+    #[inline(always)]
+    pub fn buffer(&self) -> &FrameBuffer
+        ensures { result.now ≡ self.now.lines }
+    {
+        &self.buffer
+    }
+
+    /// Lends the last finished picture, which counts for nothing where there is none.
+    #[inline(always)]
+    pub fn last(&self) -> &Picture
+        ensures { (if self.now.count == 0 then None else Some result.now.lines) ≡ self.now.finished }
+    {
+        &self.finished
+    }
+
+    /// The same before machine cycle t of any parts: without the bytes whose DMA cycles are still to come, and without pictures of which there
+    /// are more than cycles.
+    #[inline(always)]
+    pub fn restore(
+        t: u64,
+        shown: bool,
+        lines: &[[u8; 8]; 128],
+        lengths: &[u8; 128],
+        count: u64,
+        finished: &[[u8; 8]; 128],
+    ) -> Raster
+        ensures shown { result.shown ≡ shown }
+        ensures room { HasRoom t result.lines }
+        ensures count { result.count ≡ min count t }
+    {
+        Raster {
+            shown,
+            buffer: FrameBuffer::restore(&Place::of(t), lines, lengths),
+            count: count.min(t),
+            finished: Picture { lines: *finished },
         }
     }
 

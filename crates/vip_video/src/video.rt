@@ -1,12 +1,14 @@
 //! The video chip.
 
-ghost use Rattle.std.specs.Prelude.{◌≡◌, ◌+◌, ◌<◌, ◌^◌, ◌↔◌, ℕ, length, true, false, IsSome, IsTrue, Some};
+ghost use Rattle.std.specs.Prelude.{min, ◌≡◌, ◌+◌, ◌<◌, ◌^◌, ◌↔◌, ℕ, length, true, false, IsSome, IsTrue, Some};
 ghost use Rattle.std.specs.Option.{option_map};
 ghost use Rattle.machine.specs.Signals.{int_at, dma_at, efx_at};
 ghost use Rattle.vip_video.specs.Chip.{at_start, at_cycle, ended, ended_with};
 ghost use Rattle.vip_video.specs.Quiet.{IsQuiet};
+ghost use Rattle.vip_video.specs.Parts.{ArePossible, chip_of};
 
 use crate::buffer::Picture;
+use crate::parts::VideoParts;
 use crate::place::{
     FRAME_CYCLES, INTERRUPT_CYCLE, LINE_CYCLES, Place, Requests, Signals, WINDOW_LINE,
 };
@@ -61,6 +63,69 @@ impl Video {
             on,
             cycle_on: on,
             raster: Raster::new(t % FRAME_CYCLES <= INTERRUPT_CYCLE),
+        }
+    }
+
+    /// A chip of these parts, which are those of a chip between two moves (`VideoParts::are_possible`). It needs no allocator.
+    #[inline(always)]
+    pub fn from_parts(parts: &VideoParts) -> Video
+        requires { ArePossible parts.now }
+        ensures { result ≡ chip_of parts.now }
+    {
+        Video {
+            cycles: parts.cycles,
+            quiet_to: parts.cycles,
+            place: Place::of(parts.cycles),
+            on: parts.on,
+            cycle_on: parts.on,
+            raster: Raster::from_parts(parts),
+        }
+    }
+
+    /// A chip before machine cycle t, with the display on or off, also in that cycle, made of any parts: without the bytes whose DMA cycles are
+    /// still to come, and without pictures of which there are more than cycles. It needs no allocator.
+    #[inline(always)]
+    pub fn restore(
+        t: u64,
+        on: bool,
+        shown: bool,
+        lines: &[[u8; 8]; 128],
+        lengths: &[u8; 128],
+        count: u64,
+        finished: &[[u8; 8]; 128],
+    ) -> Video
+        ensures cycles { result.cycles ≡ t }
+        ensures on { result.on ≡ on }
+        ensures cycle_on { result.cycle_on ≡ on }
+        ensures shown { result.pictures.shown ≡ shown }
+        ensures count { result.pictures.count ≡ min count t }
+    {
+        Video {
+            cycles: t,
+            quiet_to: t,
+            place: Place::of(t),
+            on,
+            cycle_on: on,
+            raster: Raster::restore(t, shown, lines, lengths, count, finished),
+        }
+    }
+
+    /// The parts of the chip, whose display is as it was when the last cycle ended.
+    #[inline(always)]
+    pub fn parts(&self) -> VideoParts
+        requires { self.now.cycle_on ≡ self.now.on }
+        ensures chip { chip_of result ≡ self.now }
+        ensures possible { ArePossible result }
+    {
+        let (lines, lengths) = self.raster.buffer().parts();
+        VideoParts {
+            cycles: self.cycles,
+            on: self.on,
+            shown: self.raster.is_shown(),
+            count: self.raster.count(),
+            lines: *lines,
+            lengths: *lengths,
+            finished: self.raster.last().lines,
         }
     }
 

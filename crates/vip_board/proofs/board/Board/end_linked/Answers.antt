@@ -8,16 +8,16 @@ use Rattle.vip_board.proofs.Joins.{MadeLast, made-last, seen-last}
 use Rattle.vip_board.proofs.board.Board.end_linked.Goals as goal
 
 pub end_cycle-requires-clause-present : goal.end_cycle-requires-clause-present
-end_cycle-requires-clause-present c =
+end_cycle-requires-clause-present g c =
     let cpu = c.self.inside.cpu in
     let m : MadeLast cpu c.self.inside.wires c.full.result c.full-2.result c.cycle.new.self c.cycle.new.bus.wires.now c.cycle.new.bus.incoming
     c.cycle.new.bus.outgoing =
     made-last c.requires.last.0 cpu _ c.cycle.new.bus c.cycle.new.self c.cycle.result
     (ap (λ (s : Seen). s.phase) c.self.view_is ∙ c.requires.last.1) c.cycle.ensures in
-    c.now-now.ensures ∙ sym (ap (λ (w : Wires). w.video.cycles) m.wires)
+    c.now-now.ensures ∙ sym (ap (λ (w : Wires _). w.video.cycles) m.wires)
 
 pub returns-clause-board : goal.returns-clause-board
-returns-clause-board c =
+returns-clause-board g c =
     let cpu = c.self.inside.cpu in
     let m =
     made-last c.requires.last.0 cpu _ c.cycle.new.bus c.cycle.new.self c.cycle.result
@@ -29,7 +29,7 @@ returns-clause-board c =
     ∙ ap (λ s. last_cycled s c.args.incoming.now c.args.outgoing.now) c.self.view_is
 
 pub returns-clause-incoming : goal.returns-clause-incoming
-returns-clause-incoming c =
+returns-clause-incoming g c =
     let cpu = c.self.inside.cpu in
     let m : MadeLast cpu c.self.inside.wires c.full.result c.full-2.result c.cycle.new.self c.cycle.new.bus.wires.now c.cycle.new.bus.incoming
     c.cycle.new.bus.outgoing =
@@ -40,7 +40,7 @@ returns-clause-incoming c =
     ∙ ap (λ s. incoming_after (last_cycle s c.args.incoming.now c.args.outgoing.now).effect.port c.args.incoming.now) c.self.view_is
 
 pub returns-clause-outgoing : goal.returns-clause-outgoing
-returns-clause-outgoing c =
+returns-clause-outgoing g c =
     let cpu = c.self.inside.cpu in
     let m : MadeLast cpu c.self.inside.wires c.full.result c.full-2.result c.cycle.new.self c.cycle.new.bus.wires.now c.cycle.new.bus.incoming
     c.cycle.new.bus.outgoing =

@@ -6,13 +6,13 @@ use Rattle.vip_board.proofs.Calls.{made-on, no-byte, seen_after}
 use Rattle.vip_board.proofs.board.Board.go_on.Goals as goal
 
 pub end_cycle-requires-clause-present : goal.end_cycle-requires-clause-present
-end_cycle-requires-clause-present c =
+end_cycle-requires-clause-present g c =
     let going : c.self.inside.cpu.phase ≡ Boundary → ⊥ = λ h. c.requires.middle (sym (ap (λ (s : Seen). s.phase) c.self.view_is) ∙ h) in
     let m = made-on c.self.inside.cpu c.self.inside.wires _ _ c.cycle.new.self c.cycle.new.bus c.cycle.result going c.cycle.ensures in
-    c.now-now.ensures ∙ sym (ap (λ (w : Wires). w.video.cycles) m.wires)
+    c.now-now.ensures ∙ sym (ap (λ (w : Wires _). w.video.cycles) m.wires)
 
 pub returns : goal.returns
-returns c =
+returns g c =
     let cpu = c.self.inside.cpu in
     let going : cpu.phase ≡ Boundary → ⊥ = λ h. c.requires.middle (sym (ap (λ (s : Seen). s.phase) c.self.view_is) ∙ h) in
     let m = made-on cpu c.self.inside.wires _ _ c.cycle.new.self c.cycle.new.bus c.cycle.result going c.cycle.ensures in

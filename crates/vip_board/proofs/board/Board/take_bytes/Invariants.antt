@@ -5,7 +5,7 @@ use Rattle.vip_board.proofs.board.Board.take_bytes.Given as goal
 
 -- so many bytes are taken
 abbrev pub invariant-loop-k : goal.invariant-loop-k
-invariant-loop-k l =
+invariant-loop-k g l =
     record {
       board : seen_of l.self-inside.cpu l.self-inside.wires ≡ taken_by l.k l.fn.self;
       wires : l.self-inside.wires ≡ l.initial.self-inside.wires;

@@ -3,7 +3,7 @@ use Rattle.std.specs.Prelude.{IfOk}
 use Rattle.vip_board.specs.Shown.{HasPicturesSince}
 use Rattle.vip_board.specs.Seen.{Seen}
 use Rattle.vip_board.proofs.Shown.{shows-nothing}
-use Rattle.vip_board.proofs.board.Board.restore.Goals as goal
+use Rattle.vip_board.proofs.board.Board+Script.restore.Goals as goal
 
 shown_since : {E : Type 0} (t : ℕ) (old : Seen) → HasPicturesSince t old.rom [] old.machine.cycle old.pictures → (r : Result Seen E)
     → IfOk r (λ b. b ≡ old) → IfOk r (λ b. HasPicturesSince t b.rom [] b.machine.cycle b.pictures)

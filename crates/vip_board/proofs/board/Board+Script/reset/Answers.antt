@@ -3,7 +3,7 @@ use Rattle.machine.proofs.Fits.{reset-fits}
 use Rattle.vip_video.specs.Chip.{Chip}
 use Rattle.vip_board.specs.Shown.{HasPictures}
 use Rattle.vip_board.proofs.Shown.{shows-nothing}
-use Rattle.vip_board.proofs.board.Board.reset.Goals as goal
+use Rattle.vip_board.proofs.board.Board+Script.reset.Goals as goal
 
 pub returns-clause-pictures : goal.returns-clause-pictures
 returns-clause-pictures c =

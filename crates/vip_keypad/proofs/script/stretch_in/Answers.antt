@@ -1,6 +1,6 @@
 use Rattle.std.proofs.Common.{◌∙◌, sym}
 use Rattle.vip_keypad.proofs.EntriesLemmas.{held_at-entries}
-use Rattle.vip_keypad.proofs.script.stretch_about.Goals as goal
+use Rattle.vip_keypad.proofs.script.stretch_in.Goals as goal
 
 pub returns : goal.returns
 returns c = λ t k from until below.

@@ -3,7 +3,7 @@ use Rattle.machine.specs.Ranges.{FitsRegs}
 use Rattle.vip_cpu.specs.Cycle.{Processor}
 use Rattle.vip_keypad.specs.KeypadState.{KeypadState}
 use Rattle.vip_memory.specs.Contents.{Contents}
-use Rattle.vip_board.proofs.board.Board.stand.Goals as goal
+use Rattle.vip_board.proofs.board.Board+Script.stand.Goals as goal
 
 pub returns-clause-fits : goal.returns-clause-fits
 returns-clause-fits c =
