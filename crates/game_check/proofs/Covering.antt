@@ -21,8 +21,9 @@ use Rattle.game_check.specs.Closed.{has_range, high_after, instr_in, low_after, 
 use Rattle.game_check.specs.Grammar.{order}
 use Rattle.game_check.specs.Least.{IsAround, IsClosed, IsCovered, IsFollowed, IsMet, claim_of, goes, last_address, left_by}
 use Rattle.game_check.specs.Order.{IsAscending}
-use Rattle.game_check.specs.Searching.{AreMet, HasGrown, IsMarked, IsProper, ways_of, weight, weights}
-use Rattle.game_check.specs.declared.least.Search.{Search}
+use Rattle.game_check.specs.Searching.{AreFound, AreMet, HasGrown, IsFoundOn, IsMarked, IsProper, ways_of, weight, weights}
+use Rattle.game_check.specs.declared.least.Family.{Family}
+use Rattle.game_check.specs.declared.least.search.Search.{Search}
 use Rattle.game_check.proofs.Ordered.{order_total, same_point}
 
 -- ---- points
@@ -56,9 +57,6 @@ one_claim family up i j d e first second same = elim (cases_order i j) [
     here = same ∙ ap (λ c. c.point) (get_or_default family j e d second)
 
 -- ---- ranges
-
-pub around-itself : (c : Claim) → IsAround c c
-around-itself c = record { point = refl; low = omega arith; high = omega arith }
 
 pub around-trans : (a b c : Claim) → IsAround a b → IsAround b c → IsAround a c
 around-trans a b c first second = record {
@@ -268,23 +266,37 @@ not_true false h = refl
 not_true true h = cc
 
 -- the claim of a point grows to hold another
-module _ (e : Edition) (game : List ℕ) (claims : List Claim) (are : AreMet e game claims) (place : ℕ) (within : place < length claims) (c old new : Claim)
+module _ (e : Edition) (game : List ℕ) (claims : List Claim) (place : ℕ) (within : place < length claims) (c old new : Claim)
     (there : old ≡ get_or claims place old) (same : order old.point c.point ≡ Equal) (point : new.point ≡ old.point) (low : new.low ≡ min old.low c.low)
     (high : new.high ≡ max old.high c.high) where
-  pub widened_met : IsMet e game c → IsProper c → AreMet e game (slice_set claims place new)
-  widened_met met proper =
-      let had : IsMet e game old = subst (IsMet e game) (sym there) (are.met place old within) in
-      let was : IsProper old = subst IsProper (sym there) (are.proper place old within) in
-      put_met e game claims are place new within (λ d. point ∙ ap (λ x. x.point) (there ∙ get_or_default claims place old d within))
-      (met_join e game old c new (point_is old.point c.point same) had met point low high)
-      (record {
+  joined_met : All (IsMet e game) claims → IsMet e game c → IsMet e game new
+  joined_met all met =
+      let had : IsMet e game old = subst (IsMet e game) (sym there) (all place old within) in
+      met_join e game old c new (point_is old.point c.point same) had met point low high
+
+  joined_proper : All IsProper claims → IsProper c → IsProper new
+  joined_proper all proper =
+      let was : IsProper old = subst IsProper (sym there) (all place old within) in
+      record {
         rises = omega (arith, low, high, was.rises, proper.rises);
         low = omega (arith, low, was.low, proper.low);
         high = omega (arith, high, was.high, proper.high);
-      })
+      }
 
-  pub widened_more : (grew : Bool) → grew ≡ not (has_range c.low c.high old) → IsProper c → grew ≡ true → weights claims < weights (slice_set claims place new)
-  widened_more grew is proper up =
+  pub widened_found : AreFound e game claims → IsMet e game c → IsProper c → AreFound e game (slice_set claims place new)
+  widened_found are met proper = record {
+    met = All-set (IsMet e game) claims place new (joined_met are.met met) are.met;
+    proper = All-set IsProper claims place new (joined_proper are.proper proper) are.proper;
+  }
+
+  pub widened_met : AreMet e game claims → IsMet e game c → IsProper c → AreMet e game (slice_set claims place new)
+  widened_met are met proper =
+      put_met e game claims are place new within (λ d. point ∙ ap (λ x. x.point) (there ∙ get_or_default claims place old d within))
+      (joined_met are.met met) (joined_proper are.proper proper)
+
+  pub widened_more : AreMet e game claims → (grew : Bool) → grew ≡ not (has_range c.low c.high old) → IsProper c → grew ≡ true
+      → weights claims < weights (slice_set claims place new)
+  widened_more are grew is proper up =
       let was : IsProper old = subst IsProper (sym there) (are.proper place old within) in
       weights-put claims place new old within
       (subst (λ x. weight x < weight new) there
@@ -347,16 +359,14 @@ module _ (e : Edition) (game : List ℕ) (c first : Claim) (second : Option Clai
       all : All (IsCovered claims) (map left points)
       all = subst (All (IsCovered claims)) (sym ways) (cover second refl)
 
--- ---- a search that goes on
+-- ---- a search and a family that grow
 
--- what is noted of claims doesn't tell
-pub grown_marked : (old mid new : Search) (grew : Bool) → IsMarked mid new → HasGrown old mid grew → HasGrown old new grew
-grown_marked old mid new grew marked grown = record {
-  edition = marked.edition ∙ grown.edition;
-  game = ap (λ g. g.now) marked.game ∙ grown.game;
-  kept = rw (marked.edition, marked.game, marked.claims) grown.kept;
-  more = λ up. rw marked.claims (grown.more up);
-  same = λ stays. rw marked.claims (grown.same stays);
+-- what is noted of claims doesn't count
+pub found_marked : (old mid new : Search) → IsMarked mid new → IsFoundOn old mid → IsFoundOn old new
+found_marked old mid new marked found = record {
+  edition = marked.edition ∙ found.edition;
+  game = ap (λ g. g.now) marked.game ∙ found.game;
+  found = rw (marked.edition, marked.game, marked.claims) found.found;
 }
 
 or_none : (a b : Bool) → (b || a) ≡ false → (a ≡ false) × (b ≡ false)
@@ -364,16 +374,16 @@ or_none a true h = cc
 or_none true false h = cc
 or_none false false h = (refl, refl)
 
-pub no_less : (old new : Search) (grew : Bool) → HasGrown old new grew → weights old.claims.items ≤ weights new.claims.items
+pub no_less : (old new : Family) (grew : Bool) → HasGrown old new grew → weights old.claims.items ≤ weights new.claims.items
 no_less old new true grown = omega (arith, grown.more refl)
 no_less old new false grown = omega (arith, ap weights (grown.same refl))
 
-more_on : (old mid new : Search) (a b : Bool) → HasGrown old mid a → HasGrown mid new b → (b || a) ≡ true → weights old.claims.items < weights new.claims.items
+more_on : (old mid new : Family) (a b : Bool) → HasGrown old mid a → HasGrown mid new b → (b || a) ≡ true → weights old.claims.items < weights new.claims.items
 more_on old mid new a true first second up = let before = no_less old mid a first in let after = second.more refl in omega (arith, before, after)
 more_on old mid new true false first second up = let before = first.more refl in let after = no_less mid new false second in omega (arith, before, after)
 more_on old mid new false false first second up = cc
 
-pub grown_on : (old mid new : Search) (a b r : Bool) → HasGrown old mid a → HasGrown mid new b → r ≡ (b || a) → HasGrown old new r
+pub grown_on : (old mid new : Family) (a b r : Bool) → HasGrown old mid a → HasGrown mid new b → r ≡ (b || a) → HasGrown old new r
 grown_on old mid new a b r first second is = record {
   edition = second.edition ∙ first.edition;
   game = second.game ∙ first.game;
@@ -382,19 +392,11 @@ grown_on old mid new a b r first second is = record {
   same = λ stays. let each = or_none a b (sym is ∙ stays) in second.same each.1 ∙ first.same each.0;
 }
 
--- what grows in what grew
-pub grown_first : (old mid new : Search) (a b : Bool) → HasGrown old mid a → a ≡ true → HasGrown mid new b → HasGrown old new true
-grown_first old mid new a b first up second = grown_on old mid new a b true first second (up_both b a up)
-  where
-    up_both : (b a : Bool) → a ≡ true → true ≡ (b || a)
-    up_both true a h = refl
-    up_both false a h = sym h
-
 pub neither : (a b r : Bool) → r ≡ (b || a) → r ≡ false → (a ≡ false) × (b ≡ false)
 neither a b r is stays = or_none a b (sym is ∙ stays)
 
 -- what a claim that was followed says, where nothing had grown before
-pub followed_there : (old mid : Search) (a : Bool) → HasGrown old mid a → a ≡ false → (place : ℕ)
+pub followed_there : (old mid : Family) (a : Bool) → HasGrown old mid a → a ≡ false → (place : ℕ)
     → ((d : Claim) → Some d ≡ slice_get mid.claims.items place → goes mid.edition mid.game.now d ≡ true → IsFollowed mid.game.now mid.claims.items d)
     → (d : Claim) → Some d ≡ slice_get old.claims.items place → goes old.edition old.game.now d ≡ true → IsFollowed old.game.now old.claims.items d
 followed_there old mid a grown stays place says = rw (grown.edition, grown.game, grown.same stays) at says

@@ -11,7 +11,7 @@ use Rattle.game_check.specs.Closed.{cause_in}
 use Rattle.game_check.specs.Grammar.{claims_of}
 use Rattle.game_check.specs.Least.{HasNone, IsClosed, IsFound, IsOpen, IsTold, IsTooLong, family_text, line_bytes, most_bytes}
 use Rattle.game_check.specs.Searching.{AreMet, AreWords, HasGrown, HasMet, IsProper, IsSettled, IsWritable, weight, weights}
-use Rattle.game_check.specs.declared.least.Search.{Search}
+use Rattle.game_check.specs.declared.least.Family.{Family}
 use Rattle.std.proofs.lemmas.Bool.{leb-true}
 use Rattle.std.proofs.lemmas.List.Sums.{sum_by-cons}
 use Rattle.std.proofs.lemmas.List.Elements.{All-head, All-tail}
@@ -26,15 +26,8 @@ module _ (e : Edition) (game : List ℕ) where
       let fewer = covering_bytes family claims closed.in_order are.in_order (λ k c within. are.met k c within family closed) in
       omega (arith, fewer, long)
 
-  pub none_met : (claims : List Claim) → claims ≡ [] → AreMet e game claims
-  none_met claims none = rw none (record {
-    in_order = λ i j d before below. absurd (omega (arith, below));
-    met = λ k c within. absurd (omega (arith, within));
-    proper = λ k c within. absurd (omega (arith, within));
-  })
-
   -- a round in which nothing grew
-  pub settles : (old new : Search) (grew : Bool) → HasGrown old new grew → grew ≡ false → old.edition ≡ e → old.game.now ≡ game → HasMet old
+  pub settles : (old new : Family) (grew : Bool) → HasGrown old new grew → grew ≡ false → old.edition ≡ e → old.game.now ≡ game → HasMet old
       → IsClosed old.edition old.game.now old.claims.items → leb (sum_by line_bytes old.claims.items) most_bytes ≡ true → IsSettled e game new.claims.items
   settles old new grew grown stays edition of_game are closed fits =
       let same = grown.same stays in
@@ -113,7 +106,7 @@ weights_small (c ∷ claims) all =
     let high = here.high in
     omega (arith, rest, high, sum_by-cons weight c claims, sum_by-cons line_bytes c claims)
 
-pub less_left : (old new : Search) (grew : Bool) → HasGrown old new grew → grew ≡ true → HasMet old → leb (sum_by line_bytes old.claims.items) most_bytes ≡ true
+pub less_left : (old new : Family) (grew : Bool) → HasGrown old new grew → grew ≡ true → HasMet old → leb (sum_by line_bytes old.claims.items) most_bytes ≡ true
     → 0x20000 * most_bytes + 1 - weights new.claims.items < 0x20000 * most_bytes + 1 - weights old.claims.items
 less_left old new grew grown up are fits =
     let more = grown.more up in

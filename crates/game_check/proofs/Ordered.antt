@@ -3,17 +3,16 @@ use Rattle.std.proofs.Common.{◌≡◌, ℕ, ◌+◌, ◌-◌, ◌<◌, ◌≤�
 use Rattle.std.specs.Cmp.{IsTotalOrder}
 use Rattle.std.specs.Cmp.Lexicographic.{slice_cmp}
 use Rattle.std.specs.FinMap.{nat_cmp-IsAntisymmetric, slice_cmp-IsAntisymmetric}
-use Rattle.std.specs.List.{All, list_all, list_any}
+use Rattle.std.specs.List.{list_all, list_any}
 use Rattle.std.specs.List.Sorted.{IsNonDecreasingBy, IsPartitionPoint, IsSortedBy}
 use Rattle.std.specs.Option.{option_to_list}
-use Rattle.std.specs.Prelude.{if◌then◌else◌}
 use Rattle.std.specs.declared.cmp.Ordering.{Ordering}
 use Rattle.std.specs.declared.cmp.Ordering.TheVariants.{Less, Equal, Greater}
 use Rattle.std.specs.Ordering.{is_eq, is_lt, nat_cmp, ordering_index, ordering_reverse, ordering_then}
 use Rattle.std.proofs.lemmas.Bool.{and_right, cases_Bool, cases_lt, cases_order, le-leb, le-ltb, leb-true, lt-leb, lt-ltb, ne_eqb}
 use Rattle.std.proofs.lemmas.Cmp.{nat_cmp_total, nat_list_cmp_total, on_total, then_total, alike_right}
 use Rattle.std.proofs.lemmas.List.{append-nil, length-append}
-use Rattle.std.proofs.lemmas.List.Elements.{All-from_get_or, All-push}
+use Rattle.std.proofs.lemmas.List.Elements.{All-from_get_or}
 use Rattle.std.proofs.lemmas.List.Folds.{list_all_at, list_any_at, list_any_none}
 use Rattle.std.proofs.lemmas.List.Quantifiers.{all_pairs_push}
 use Rattle.std.proofs.lemmas.List.Sorted.{searchable_from_sorted}
@@ -85,20 +84,6 @@ ascending_more claims claim up behind = all_pairs_push (λ a b. order a.point b.
           let end : k ≡ length claims - 1 = omega (arith, within) in
           rw end (last_before d (omega (arith, within)))
     ]
-
--- one more is kept where it comes behind the others
-module _ (claims new : List Claim) (claim : Claim) (is : new ≡ (if is_behind claims claim then claims ++ claim ∷ [] else claims)) where
-  pub kept_in_order : IsAscending claims → IsAscending new
-  kept_in_order up = elim (cases_Bool (is_behind claims claim)) [
-    | inl behind ↦ rw (is, behind) (ascending_more claims claim up behind)
-    | inr other ↦ rw (is, other) up
-  ]
-
-  pub kept_all : (P : Claim → Type 0) → All P claims → P claim → All P new
-  kept_all P all this = elim (cases_Bool (is_behind claims claim)) [
-    | inl behind ↦ rw (is, behind) (All-push P claims claim all this)
-    | inr other ↦ rw (is, other) all
-  ]
 
 -- what a line adds
 pub ascending_with : (claims : List Claim) (said : Option Claim) → IsAscending claims → cause_after claims (Ok said) ≡ None

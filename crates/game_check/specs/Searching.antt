@@ -5,8 +5,8 @@ use Rattle.std.specs.declared.cmp.Ordering.TheVariants.{Less, Equal, Greater}
 use Rattle.chip8_lang.specs.declared.view.Edition.{Edition}
 use Rattle.game_check.specs.declared.claim.Claim.{Claim}
 use Rattle.game_check.specs.declared.claim.Point.{Point}
-use Rattle.game_check.specs.declared.explore.Explorer.{Explorer}
-use Rattle.game_check.specs.declared.least.Search.{Search}
+use Rattle.game_check.specs.declared.least.Family.{Family}
+use Rattle.game_check.specs.declared.least.search.Search.{Search}
 use Rattle.game_check.specs.Closed.{instr_in, next_points}
 use Rattle.game_check.specs.Grammar.{order}
 use Rattle.game_check.specs.Least.{IsClosed, IsCovered, IsLeast, IsMet, above, claim_of, last_address, left_by, line_bytes, most_bytes}
@@ -32,14 +32,20 @@ pub record AreFound (e : Edition) (game : List ℕ) (claims : List Claim) : Type
   pub met : All (IsMet e game) claims
   pub proper : All IsProper claims
 
-abbrev pub HasFound : Explorer → Type 0
+abbrev pub HasFound : Search → Type 0
 HasFound s = AreFound s.edition s.game.now s.claims.items
 
 -- of the same game, more may be found
-pub record IsFoundOn (old new : Explorer) : Type 0 where
+pub record IsFoundOn (old new : Search) : Type 0 where
   pub edition : new.edition ≡ old.edition
   pub game : new.game.now ≡ old.game.now
   pub found : HasFound new
+
+-- what is noted of the claims may differ
+pub record IsMarked (old new : Search) : Type 0 where
+  pub edition : new.edition ≡ old.edition
+  pub game : new.game ≡ old.game
+  pub claims : new.claims ≡ old.claims
 
 -- and they are in order
 pub record AreMet (e : Edition) (game : List ℕ) (claims : List Claim) : Type 0 where
@@ -47,24 +53,14 @@ pub record AreMet (e : Edition) (game : List ℕ) (claims : List Claim) : Type 0
   pub met : All (IsMet e game) claims
   pub proper : All IsProper claims
 
-abbrev pub HasMet : Search → Type 0
+abbrev pub HasMet : Family → Type 0
 HasMet s = AreMet s.edition s.game.now s.claims.items
 
--- the search of a game
-pub record IsSearch (e : Edition) (bytes : List ℕ) (s : Search) : Type 0 where
+-- the family of a game
+pub record IsStarted (e : Edition) (bytes : List ℕ) (s : Family) : Type 0 where
   pub edition : s.edition ≡ e
   pub game : s.game.now ≡ bytes
   pub kept : HasMet s
-
--- of the same game, more may be met
-abbrev pub IsKept : Search → Search → Type 0
-IsKept old new = IsSearch old.edition old.game.now new
-
--- what is noted of the claims may differ
-pub record IsMarked (old new : Search) : Type 0 where
-  pub edition : new.edition ≡ old.edition
-  pub game : new.game ≡ old.game
-  pub claims : new.claims ≡ old.claims
 
 -- where the claim of a point stands
 pub record IsPlace (claims : List Claim) (p : Point) (place : ℕ) : Type 0 where
@@ -85,7 +81,7 @@ abbrev pub weights : List Claim → ℕ
 weights = sum_by weight
 
 -- the claims stay, or more is met
-pub record HasGrown (old new : Search) (grew : Bool) : Type 0 where
+pub record HasGrown (old new : Family) (grew : Bool) : Type 0 where
   pub edition : new.edition ≡ old.edition
   pub game : new.game.now ≡ old.game.now
   pub kept : HasMet new

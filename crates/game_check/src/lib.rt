@@ -1,27 +1,32 @@
-//! Certificates that a game never stops. A certificate is a text whose lines claim, for points of control, where the index I lies there. If each
-//! claim is closed, which is looked at line by line, then no script of keys, no ticks and no random byte ever lead to a stop.
+//! Certificates that a game never stops. Each line of a certificate claims where the index I lies at
+//! a point of control. If every claim is closed, then no key script, no tick and no random byte ever
+//! leads to a stop. The format is our choice, and `check_game` describes it.
 //!
-//! The crate stands on the definitions of `machine` and `chip8_lang`, and on the lines, words and numbers of `vip_byte` and `vip_keypad`. The
-//! layers above may rely on this: `check_game` answers the number of claims exactly where the certificate is well formed and closed and has a claim of
-//! the start, and else its first fault (`specs/Proof.antt`); of such a certificate the step law holds, and its game never stops (`specs/Laws.antt`);
-//! `find_certificate` decides: it finds the least certificate that `check_game` accepts exactly where there is one of at most 1,048,576 bytes, memory
-//! aside, and else says why there is none (`specs/Least.antt`). Its work is at most some few times the lines times the ways between them, and mostly some few
-//! times the lines (`src/least.rt`). The format is this project's profile.
+//! | Module | What it does |
+//! |---|---|
+//! | `checker` | checks a certificate line by line: the number of its claims, or its first fault |
+//! | `least` | finds the least family of claims that is closed |
+//! | `decision` | writes that family as a certificate, or returns why the game has none |
+//!
+//! The crate uses the definitions of `machine` and `chip8_lang`, the lines and numbers of `vip_byte`
+//! and the words of `vip_keypad`. Its callers may rely on this:
+//!
+//! - `check_game` returns the number of claims if and only if the certificate is well formed, has a
+//!   claim of the start, and all its claims are closed (`specs/Proof.antt`).
+//! - A game with such a certificate never stops (`specs/Laws.antt`).
+//! - `find_certificate` returns a certificate if and only if `check_game` accepts one of at most
+//!   1,048,576 bytes, and then the least one. Otherwise it returns the reason (`specs/Least.antt`).
+//!   Out of memory is a possible answer of both.
 #![tactic(auto)]
 
-mod check;
+mod checker;
 mod claim;
-mod closed;
-mod explore;
+mod decision;
 mod fault;
-mod find;
 pub mod laws;
 mod least;
-mod line;
-mod read;
-mod ways;
 
-pub use check::check_game;
+pub use checker::check_game;
 pub use claim::{Claim, Point};
+pub use decision::find_certificate;
 pub use fault::{FindFault, Obstacle, OpenClaim, ProofCause, ProofFault};
-pub use find::find_certificate;

@@ -1,49 +1,50 @@
 -- Instructions keep the ranges.
-use Rattle.std.proofs.Common.{ℕ, zero, suc, ◌<◌, ◌≤◌, Bool, true, false, cond, arith, bit_and, lit<}
+use Rattle.std.proofs.Common.{ℕ, zero, ◌<◌, ◌≤◌, Bool, true, false, cond, arith, bit_and, lit<}
 use Rattle.std.specs.Prelude.{◌==◌, not, Option, Some, None}
 use Rattle.std.proofs.lemmas.Nat.{and_le_l, or_of_8, xor_of_8}
 use Rattle.machine.specs.declared.Kind.{Kind}
 use Rattle.machine.specs.declared.Kind.TheVariants.{Idl, Ldn, Inc, Dec, Br, Bq, Bz, Bdf, B1, B2, B3, B4, Skp, Bnq, Bnz, Bnf, Bn1, Bn2, Bn3, Bn4, Lda, Str, Irx, Out, Undefined, Inp, Ret, Dis, Ldxa, Stxd, Adc, Sdb, Shrc, Smb, Sav, Mark, Req, Seq, Adci, Sdbi, Shlc, Smbi, Glo, Ghi, Plo, Phi, Lbr, Lbq, Lbz, Lbdf, Nop, Lsnq, Lsnz, Lsnf, Lskp, Lbnq, Lbnz, Lbnf, Lsie, Lsq, Lsz, Lsdf, Sep, Sex, Ldx, Or, And, Xor, Add, Sd, Shr, Sm, Ldi, Ori, Ani, Xri, Adi, Sdi, Shl, Smi}
 use Rattle.machine.specs.Bank.{Word, word, up, down, Bank, get, put}
+use Rattle.machine.specs.Numerals.{1+, 2+, 3+, 4+, 5+, 6+, 7+, 8+, 9+, 10+, 11+, 12+, 13+, 14+, 15+}
 use Rattle.machine.specs.Opcodes.{kind_of, number_in, opcode_number}
 use Rattle.machine.specs.Instruction.{Regs, Inputs, effect, at, with_reg, stepped, stepped_back, loaded, df_d, returned, marked, branched, long_branched, skipped}
 use Rattle.machine.specs.Ranges.{FitsWord, FitsBank, FitsRegs, FitsInputs}
 
 pub get_fits : (n : ℕ) (r : Bank) → FitsBank r → FitsWord (get r n)
 get_fits zero r f = f.r0
-get_fits (suc zero) r f = f.r1
-get_fits (suc (suc zero)) r f = f.r2
-get_fits (suc (suc (suc zero))) r f = f.r3
-get_fits (suc (suc (suc (suc zero)))) r f = f.r4
-get_fits (suc (suc (suc (suc (suc zero))))) r f = f.r5
-get_fits (suc (suc (suc (suc (suc (suc zero)))))) r f = f.r6
-get_fits (suc (suc (suc (suc (suc (suc (suc zero))))))) r f = f.r7
-get_fits (suc (suc (suc (suc (suc (suc (suc (suc zero)))))))) r f = f.r8
-get_fits (suc (suc (suc (suc (suc (suc (suc (suc (suc zero))))))))) r f = f.r9
-get_fits (suc (suc (suc (suc (suc (suc (suc (suc (suc (suc zero)))))))))) r f = f.ra
-get_fits (suc (suc (suc (suc (suc (suc (suc (suc (suc (suc (suc zero))))))))))) r f = f.rb
-get_fits (suc (suc (suc (suc (suc (suc (suc (suc (suc (suc (suc (suc zero)))))))))))) r f = f.rc
-get_fits (suc (suc (suc (suc (suc (suc (suc (suc (suc (suc (suc (suc (suc zero))))))))))))) r f = f.rd
-get_fits (suc (suc (suc (suc (suc (suc (suc (suc (suc (suc (suc (suc (suc (suc zero)))))))))))))) r f = f.re
-get_fits (suc (suc (suc (suc (suc (suc (suc (suc (suc (suc (suc (suc (suc (suc (suc n))))))))))))))) r f = f.rf
+get_fits (1+ zero) r f = f.r1
+get_fits (2+ zero) r f = f.r2
+get_fits (3+ zero) r f = f.r3
+get_fits (4+ zero) r f = f.r4
+get_fits (5+ zero) r f = f.r5
+get_fits (6+ zero) r f = f.r6
+get_fits (7+ zero) r f = f.r7
+get_fits (8+ zero) r f = f.r8
+get_fits (9+ zero) r f = f.r9
+get_fits (10+ zero) r f = f.ra
+get_fits (11+ zero) r f = f.rb
+get_fits (12+ zero) r f = f.rc
+get_fits (13+ zero) r f = f.rd
+get_fits (14+ zero) r f = f.re
+get_fits (15+ n) r f = f.rf
 
 pub put_fits : (n : ℕ) (r : Bank) (w : Word) → FitsBank r → FitsWord w → FitsBank (put r n w)
 put_fits zero r w f g = record { r0 = g; r1 = f.r1; r2 = f.r2; r3 = f.r3; r4 = f.r4; r5 = f.r5; r6 = f.r6; r7 = f.r7; r8 = f.r8; r9 = f.r9; ra = f.ra; rb = f.rb; rc = f.rc; rd = f.rd; re = f.re; rf = f.rf }
-put_fits (suc zero) r w f g = record { r0 = f.r0; r1 = g; r2 = f.r2; r3 = f.r3; r4 = f.r4; r5 = f.r5; r6 = f.r6; r7 = f.r7; r8 = f.r8; r9 = f.r9; ra = f.ra; rb = f.rb; rc = f.rc; rd = f.rd; re = f.re; rf = f.rf }
-put_fits (suc (suc zero)) r w f g = record { r0 = f.r0; r1 = f.r1; r2 = g; r3 = f.r3; r4 = f.r4; r5 = f.r5; r6 = f.r6; r7 = f.r7; r8 = f.r8; r9 = f.r9; ra = f.ra; rb = f.rb; rc = f.rc; rd = f.rd; re = f.re; rf = f.rf }
-put_fits (suc (suc (suc zero))) r w f g = record { r0 = f.r0; r1 = f.r1; r2 = f.r2; r3 = g; r4 = f.r4; r5 = f.r5; r6 = f.r6; r7 = f.r7; r8 = f.r8; r9 = f.r9; ra = f.ra; rb = f.rb; rc = f.rc; rd = f.rd; re = f.re; rf = f.rf }
-put_fits (suc (suc (suc (suc zero)))) r w f g = record { r0 = f.r0; r1 = f.r1; r2 = f.r2; r3 = f.r3; r4 = g; r5 = f.r5; r6 = f.r6; r7 = f.r7; r8 = f.r8; r9 = f.r9; ra = f.ra; rb = f.rb; rc = f.rc; rd = f.rd; re = f.re; rf = f.rf }
-put_fits (suc (suc (suc (suc (suc zero))))) r w f g = record { r0 = f.r0; r1 = f.r1; r2 = f.r2; r3 = f.r3; r4 = f.r4; r5 = g; r6 = f.r6; r7 = f.r7; r8 = f.r8; r9 = f.r9; ra = f.ra; rb = f.rb; rc = f.rc; rd = f.rd; re = f.re; rf = f.rf }
-put_fits (suc (suc (suc (suc (suc (suc zero)))))) r w f g = record { r0 = f.r0; r1 = f.r1; r2 = f.r2; r3 = f.r3; r4 = f.r4; r5 = f.r5; r6 = g; r7 = f.r7; r8 = f.r8; r9 = f.r9; ra = f.ra; rb = f.rb; rc = f.rc; rd = f.rd; re = f.re; rf = f.rf }
-put_fits (suc (suc (suc (suc (suc (suc (suc zero))))))) r w f g = record { r0 = f.r0; r1 = f.r1; r2 = f.r2; r3 = f.r3; r4 = f.r4; r5 = f.r5; r6 = f.r6; r7 = g; r8 = f.r8; r9 = f.r9; ra = f.ra; rb = f.rb; rc = f.rc; rd = f.rd; re = f.re; rf = f.rf }
-put_fits (suc (suc (suc (suc (suc (suc (suc (suc zero)))))))) r w f g = record { r0 = f.r0; r1 = f.r1; r2 = f.r2; r3 = f.r3; r4 = f.r4; r5 = f.r5; r6 = f.r6; r7 = f.r7; r8 = g; r9 = f.r9; ra = f.ra; rb = f.rb; rc = f.rc; rd = f.rd; re = f.re; rf = f.rf }
-put_fits (suc (suc (suc (suc (suc (suc (suc (suc (suc zero))))))))) r w f g = record { r0 = f.r0; r1 = f.r1; r2 = f.r2; r3 = f.r3; r4 = f.r4; r5 = f.r5; r6 = f.r6; r7 = f.r7; r8 = f.r8; r9 = g; ra = f.ra; rb = f.rb; rc = f.rc; rd = f.rd; re = f.re; rf = f.rf }
-put_fits (suc (suc (suc (suc (suc (suc (suc (suc (suc (suc zero)))))))))) r w f g = record { r0 = f.r0; r1 = f.r1; r2 = f.r2; r3 = f.r3; r4 = f.r4; r5 = f.r5; r6 = f.r6; r7 = f.r7; r8 = f.r8; r9 = f.r9; ra = g; rb = f.rb; rc = f.rc; rd = f.rd; re = f.re; rf = f.rf }
-put_fits (suc (suc (suc (suc (suc (suc (suc (suc (suc (suc (suc zero))))))))))) r w f g = record { r0 = f.r0; r1 = f.r1; r2 = f.r2; r3 = f.r3; r4 = f.r4; r5 = f.r5; r6 = f.r6; r7 = f.r7; r8 = f.r8; r9 = f.r9; ra = f.ra; rb = g; rc = f.rc; rd = f.rd; re = f.re; rf = f.rf }
-put_fits (suc (suc (suc (suc (suc (suc (suc (suc (suc (suc (suc (suc zero)))))))))))) r w f g = record { r0 = f.r0; r1 = f.r1; r2 = f.r2; r3 = f.r3; r4 = f.r4; r5 = f.r5; r6 = f.r6; r7 = f.r7; r8 = f.r8; r9 = f.r9; ra = f.ra; rb = f.rb; rc = g; rd = f.rd; re = f.re; rf = f.rf }
-put_fits (suc (suc (suc (suc (suc (suc (suc (suc (suc (suc (suc (suc (suc zero))))))))))))) r w f g = record { r0 = f.r0; r1 = f.r1; r2 = f.r2; r3 = f.r3; r4 = f.r4; r5 = f.r5; r6 = f.r6; r7 = f.r7; r8 = f.r8; r9 = f.r9; ra = f.ra; rb = f.rb; rc = f.rc; rd = g; re = f.re; rf = f.rf }
-put_fits (suc (suc (suc (suc (suc (suc (suc (suc (suc (suc (suc (suc (suc (suc zero)))))))))))))) r w f g = record { r0 = f.r0; r1 = f.r1; r2 = f.r2; r3 = f.r3; r4 = f.r4; r5 = f.r5; r6 = f.r6; r7 = f.r7; r8 = f.r8; r9 = f.r9; ra = f.ra; rb = f.rb; rc = f.rc; rd = f.rd; re = g; rf = f.rf }
-put_fits (suc (suc (suc (suc (suc (suc (suc (suc (suc (suc (suc (suc (suc (suc (suc n))))))))))))))) r w f g = record { r0 = f.r0; r1 = f.r1; r2 = f.r2; r3 = f.r3; r4 = f.r4; r5 = f.r5; r6 = f.r6; r7 = f.r7; r8 = f.r8; r9 = f.r9; ra = f.ra; rb = f.rb; rc = f.rc; rd = f.rd; re = f.re; rf = g }
+put_fits (1+ zero) r w f g = record { r0 = f.r0; r1 = g; r2 = f.r2; r3 = f.r3; r4 = f.r4; r5 = f.r5; r6 = f.r6; r7 = f.r7; r8 = f.r8; r9 = f.r9; ra = f.ra; rb = f.rb; rc = f.rc; rd = f.rd; re = f.re; rf = f.rf }
+put_fits (2+ zero) r w f g = record { r0 = f.r0; r1 = f.r1; r2 = g; r3 = f.r3; r4 = f.r4; r5 = f.r5; r6 = f.r6; r7 = f.r7; r8 = f.r8; r9 = f.r9; ra = f.ra; rb = f.rb; rc = f.rc; rd = f.rd; re = f.re; rf = f.rf }
+put_fits (3+ zero) r w f g = record { r0 = f.r0; r1 = f.r1; r2 = f.r2; r3 = g; r4 = f.r4; r5 = f.r5; r6 = f.r6; r7 = f.r7; r8 = f.r8; r9 = f.r9; ra = f.ra; rb = f.rb; rc = f.rc; rd = f.rd; re = f.re; rf = f.rf }
+put_fits (4+ zero) r w f g = record { r0 = f.r0; r1 = f.r1; r2 = f.r2; r3 = f.r3; r4 = g; r5 = f.r5; r6 = f.r6; r7 = f.r7; r8 = f.r8; r9 = f.r9; ra = f.ra; rb = f.rb; rc = f.rc; rd = f.rd; re = f.re; rf = f.rf }
+put_fits (5+ zero) r w f g = record { r0 = f.r0; r1 = f.r1; r2 = f.r2; r3 = f.r3; r4 = f.r4; r5 = g; r6 = f.r6; r7 = f.r7; r8 = f.r8; r9 = f.r9; ra = f.ra; rb = f.rb; rc = f.rc; rd = f.rd; re = f.re; rf = f.rf }
+put_fits (6+ zero) r w f g = record { r0 = f.r0; r1 = f.r1; r2 = f.r2; r3 = f.r3; r4 = f.r4; r5 = f.r5; r6 = g; r7 = f.r7; r8 = f.r8; r9 = f.r9; ra = f.ra; rb = f.rb; rc = f.rc; rd = f.rd; re = f.re; rf = f.rf }
+put_fits (7+ zero) r w f g = record { r0 = f.r0; r1 = f.r1; r2 = f.r2; r3 = f.r3; r4 = f.r4; r5 = f.r5; r6 = f.r6; r7 = g; r8 = f.r8; r9 = f.r9; ra = f.ra; rb = f.rb; rc = f.rc; rd = f.rd; re = f.re; rf = f.rf }
+put_fits (8+ zero) r w f g = record { r0 = f.r0; r1 = f.r1; r2 = f.r2; r3 = f.r3; r4 = f.r4; r5 = f.r5; r6 = f.r6; r7 = f.r7; r8 = g; r9 = f.r9; ra = f.ra; rb = f.rb; rc = f.rc; rd = f.rd; re = f.re; rf = f.rf }
+put_fits (9+ zero) r w f g = record { r0 = f.r0; r1 = f.r1; r2 = f.r2; r3 = f.r3; r4 = f.r4; r5 = f.r5; r6 = f.r6; r7 = f.r7; r8 = f.r8; r9 = g; ra = f.ra; rb = f.rb; rc = f.rc; rd = f.rd; re = f.re; rf = f.rf }
+put_fits (10+ zero) r w f g = record { r0 = f.r0; r1 = f.r1; r2 = f.r2; r3 = f.r3; r4 = f.r4; r5 = f.r5; r6 = f.r6; r7 = f.r7; r8 = f.r8; r9 = f.r9; ra = g; rb = f.rb; rc = f.rc; rd = f.rd; re = f.re; rf = f.rf }
+put_fits (11+ zero) r w f g = record { r0 = f.r0; r1 = f.r1; r2 = f.r2; r3 = f.r3; r4 = f.r4; r5 = f.r5; r6 = f.r6; r7 = f.r7; r8 = f.r8; r9 = f.r9; ra = f.ra; rb = g; rc = f.rc; rd = f.rd; re = f.re; rf = f.rf }
+put_fits (12+ zero) r w f g = record { r0 = f.r0; r1 = f.r1; r2 = f.r2; r3 = f.r3; r4 = f.r4; r5 = f.r5; r6 = f.r6; r7 = f.r7; r8 = f.r8; r9 = f.r9; ra = f.ra; rb = f.rb; rc = g; rd = f.rd; re = f.re; rf = f.rf }
+put_fits (13+ zero) r w f g = record { r0 = f.r0; r1 = f.r1; r2 = f.r2; r3 = f.r3; r4 = f.r4; r5 = f.r5; r6 = f.r6; r7 = f.r7; r8 = f.r8; r9 = f.r9; ra = f.ra; rb = f.rb; rc = f.rc; rd = g; re = f.re; rf = f.rf }
+put_fits (14+ zero) r w f g = record { r0 = f.r0; r1 = f.r1; r2 = f.r2; r3 = f.r3; r4 = f.r4; r5 = f.r5; r6 = f.r6; r7 = f.r7; r8 = f.r8; r9 = f.r9; ra = f.ra; rb = f.rb; rc = f.rc; rd = f.rd; re = g; rf = f.rf }
+put_fits (15+ n) r w f g = record { r0 = f.r0; r1 = f.r1; r2 = f.r2; r3 = f.r3; r4 = f.r4; r5 = f.r5; r6 = f.r6; r7 = f.r7; r8 = f.r8; r9 = f.r9; ra = f.ra; rb = f.rb; rc = f.rc; rd = f.rd; re = f.re; rf = g }
 
 pub up_fits : (w : Word) → FitsWord (up w)
 up_fits w = record { hi = omega arith; lo = omega arith }

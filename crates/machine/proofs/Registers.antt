@@ -1,28 +1,27 @@
 -- The sixteen registers, of which one is put: that one is the word, and the others stay.
-use Rattle.std.proofs.Common.{◌≡◌, ◌≢◌, ℕ, zero, suc, ◌<◌, List, [], ◌∷◌, get_or, set, get_or-set_same, get_or-set_other, refl, sym, ap, ◌∙◌, arith}
+use Rattle.std.proofs.Common.{◌≡◌, ◌≢◌, ℕ, zero, ◌<◌, List, [], ◌∷◌, get_or, set, get_or-set_same, get_or-set_other, refl, sym, ap, ◌∙◌, arith}
 use Rattle.machine.specs.Bank.{Word, Bank, get, put}
+use Rattle.machine.specs.Numerals.{1+, 2+, 3+, 4+, 5+, 6+, 7+, 8+, 9+, 10+, 11+, 12+, 13+, 14+, 15+, 16+}
 
 -- what holds of 0 to 15 holds of each number below 16
 by_register : (P : ℕ → Type 0) → P 0 → P 1 → P 2 → P 3 → P 4 → P 5 → P 6 → P 7 → P 8 → P 9 → P 10 → P 11 → P 12 → P 13 → P 14 → P 15 → (n : ℕ) → n < 16 → P n
 by_register P p0 p1 p2 p3 p4 p5 p6 p7 p8 p9 pa pb pc pd pe pf zero lt = p0
-by_register P p0 p1 p2 p3 p4 p5 p6 p7 p8 p9 pa pb pc pd pe pf (suc zero) lt = p1
-by_register P p0 p1 p2 p3 p4 p5 p6 p7 p8 p9 pa pb pc pd pe pf (suc (suc zero)) lt = p2
-by_register P p0 p1 p2 p3 p4 p5 p6 p7 p8 p9 pa pb pc pd pe pf (suc (suc (suc zero))) lt = p3
-by_register P p0 p1 p2 p3 p4 p5 p6 p7 p8 p9 pa pb pc pd pe pf (suc (suc (suc (suc zero)))) lt = p4
-by_register P p0 p1 p2 p3 p4 p5 p6 p7 p8 p9 pa pb pc pd pe pf (suc (suc (suc (suc (suc zero))))) lt = p5
-by_register P p0 p1 p2 p3 p4 p5 p6 p7 p8 p9 pa pb pc pd pe pf (suc (suc (suc (suc (suc (suc zero)))))) lt = p6
-by_register P p0 p1 p2 p3 p4 p5 p6 p7 p8 p9 pa pb pc pd pe pf (suc (suc (suc (suc (suc (suc (suc zero))))))) lt = p7
-by_register P p0 p1 p2 p3 p4 p5 p6 p7 p8 p9 pa pb pc pd pe pf (suc (suc (suc (suc (suc (suc (suc (suc zero)))))))) lt = p8
-by_register P p0 p1 p2 p3 p4 p5 p6 p7 p8 p9 pa pb pc pd pe pf (suc (suc (suc (suc (suc (suc (suc (suc (suc zero))))))))) lt = p9
-by_register P p0 p1 p2 p3 p4 p5 p6 p7 p8 p9 pa pb pc pd pe pf (suc (suc (suc (suc (suc (suc (suc (suc (suc (suc zero)))))))))) lt = pa
-by_register P p0 p1 p2 p3 p4 p5 p6 p7 p8 p9 pa pb pc pd pe pf (suc (suc (suc (suc (suc (suc (suc (suc (suc (suc (suc zero))))))))))) lt = pb
-by_register P p0 p1 p2 p3 p4 p5 p6 p7 p8 p9 pa pb pc pd pe pf (suc (suc (suc (suc (suc (suc (suc (suc (suc (suc (suc (suc zero)))))))))))) lt = pc
-by_register P p0 p1 p2 p3 p4 p5 p6 p7 p8 p9 pa pb pc pd pe pf (suc (suc (suc (suc (suc (suc (suc (suc (suc (suc (suc (suc (suc zero))))))))))))) lt = pd
-by_register P p0 p1 p2 p3 p4 p5 p6 p7 p8 p9 pa pb pc pd pe pf (suc (suc (suc (suc (suc (suc (suc (suc (suc (suc (suc (suc (suc (suc zero)))))))))))))) lt = pe
-by_register P p0 p1 p2 p3 p4 p5 p6 p7 p8 p9 pa pb pc pd pe pf (suc (suc (suc (suc (suc (suc
-    (suc (suc (suc (suc (suc (suc (suc (suc (suc zero))))))))))))))) lt = pf
-by_register P p0 p1 p2 p3 p4 p5 p6 p7 p8 p9 pa pb pc pd pe pf (suc (suc (suc (suc (suc (suc
-    (suc (suc (suc (suc (suc (suc (suc (suc (suc (suc n)))))))))))))))) lt = absurd (omega arith)
+by_register P p0 p1 p2 p3 p4 p5 p6 p7 p8 p9 pa pb pc pd pe pf (1+ zero) lt = p1
+by_register P p0 p1 p2 p3 p4 p5 p6 p7 p8 p9 pa pb pc pd pe pf (2+ zero) lt = p2
+by_register P p0 p1 p2 p3 p4 p5 p6 p7 p8 p9 pa pb pc pd pe pf (3+ zero) lt = p3
+by_register P p0 p1 p2 p3 p4 p5 p6 p7 p8 p9 pa pb pc pd pe pf (4+ zero) lt = p4
+by_register P p0 p1 p2 p3 p4 p5 p6 p7 p8 p9 pa pb pc pd pe pf (5+ zero) lt = p5
+by_register P p0 p1 p2 p3 p4 p5 p6 p7 p8 p9 pa pb pc pd pe pf (6+ zero) lt = p6
+by_register P p0 p1 p2 p3 p4 p5 p6 p7 p8 p9 pa pb pc pd pe pf (7+ zero) lt = p7
+by_register P p0 p1 p2 p3 p4 p5 p6 p7 p8 p9 pa pb pc pd pe pf (8+ zero) lt = p8
+by_register P p0 p1 p2 p3 p4 p5 p6 p7 p8 p9 pa pb pc pd pe pf (9+ zero) lt = p9
+by_register P p0 p1 p2 p3 p4 p5 p6 p7 p8 p9 pa pb pc pd pe pf (10+ zero) lt = pa
+by_register P p0 p1 p2 p3 p4 p5 p6 p7 p8 p9 pa pb pc pd pe pf (11+ zero) lt = pb
+by_register P p0 p1 p2 p3 p4 p5 p6 p7 p8 p9 pa pb pc pd pe pf (12+ zero) lt = pc
+by_register P p0 p1 p2 p3 p4 p5 p6 p7 p8 p9 pa pb pc pd pe pf (13+ zero) lt = pd
+by_register P p0 p1 p2 p3 p4 p5 p6 p7 p8 p9 pa pb pc pd pe pf (14+ zero) lt = pe
+by_register P p0 p1 p2 p3 p4 p5 p6 p7 p8 p9 pa pb pc pd pe pf (15+ zero) lt = pf
+by_register P p0 p1 p2 p3 p4 p5 p6 p7 p8 p9 pa pb pc pd pe pf (16+ n) lt = absurd (omega arith)
 
 -- R(0) to R(F) as a list
 abbrev list_of : Bank → List Word

@@ -1,6 +1,7 @@
 -- The sixteen scratch-pad registers R(0) to R(F) of the CDP1802 (data sheet, "Architecture"), each of 16 bits: the high byte R.1
 -- and the low byte R.0. A register is kept as its two bytes, since the instructions move bytes.
-use Rattle.std.specs.Prelude.{ℕ, zero, suc, ◌+◌, ◌*◌, ◌/◌, ◌%◌, List, slice_index}
+use Rattle.std.specs.Prelude.{ℕ, zero, ◌+◌, ◌*◌, ◌/◌, ◌%◌, List, slice_index}
+use Rattle.machine.specs.Numerals.{1+, 2+, 3+, 4+, 5+, 6+, 7+, 8+, 9+, 10+, 11+, 12+, 13+, 14+}
 
 -- 16 bits: R.1 and R.0
 pub record Word : Type 0 where
@@ -44,43 +45,43 @@ pub record Bank : Type 0 where
   pub re : Word
   pub rf : Word
 
--- R(n): the sixteen fields in turn, by the number written in unary. From 15 on it is R(F).
+-- R(n). From 15 on it is R(F).
 abbrev pub get : Bank → ℕ → Word
 get r zero = r.r0
-get r (suc zero) = r.r1
-get r (suc (suc zero)) = r.r2
-get r (suc (suc (suc zero))) = r.r3
-get r (suc (suc (suc (suc zero)))) = r.r4
-get r (suc (suc (suc (suc (suc zero))))) = r.r5
-get r (suc (suc (suc (suc (suc (suc zero)))))) = r.r6
-get r (suc (suc (suc (suc (suc (suc (suc zero))))))) = r.r7
-get r (suc (suc (suc (suc (suc (suc (suc (suc zero)))))))) = r.r8
-get r (suc (suc (suc (suc (suc (suc (suc (suc (suc zero))))))))) = r.r9
-get r (suc (suc (suc (suc (suc (suc (suc (suc (suc (suc zero)))))))))) = r.ra
-get r (suc (suc (suc (suc (suc (suc (suc (suc (suc (suc (suc zero))))))))))) = r.rb
-get r (suc (suc (suc (suc (suc (suc (suc (suc (suc (suc (suc (suc zero)))))))))))) = r.rc
-get r (suc (suc (suc (suc (suc (suc (suc (suc (suc (suc (suc (suc (suc zero))))))))))))) = r.rd
-get r (suc (suc (suc (suc (suc (suc (suc (suc (suc (suc (suc (suc (suc (suc zero)))))))))))))) = r.re
-get r (suc (suc (suc (suc (suc (suc (suc (suc (suc (suc (suc (suc (suc (suc (suc n))))))))))))))) = r.rf
+get r (1+ zero) = r.r1
+get r (2+ zero) = r.r2
+get r (3+ zero) = r.r3
+get r (4+ zero) = r.r4
+get r (5+ zero) = r.r5
+get r (6+ zero) = r.r6
+get r (7+ zero) = r.r7
+get r (8+ zero) = r.r8
+get r (9+ zero) = r.r9
+get r (10+ zero) = r.ra
+get r (11+ zero) = r.rb
+get r (12+ zero) = r.rc
+get r (13+ zero) = r.rd
+get r (14+ zero) = r.re
+get r _ = r.rf
 
--- the registers with w in R(n), in the same way
+-- the registers with w in R(n)
 abbrev pub put : Bank → ℕ → Word → Bank
 put r zero w = record r { r0 = w }
-put r (suc zero) w = record r { r1 = w }
-put r (suc (suc zero)) w = record r { r2 = w }
-put r (suc (suc (suc zero))) w = record r { r3 = w }
-put r (suc (suc (suc (suc zero)))) w = record r { r4 = w }
-put r (suc (suc (suc (suc (suc zero))))) w = record r { r5 = w }
-put r (suc (suc (suc (suc (suc (suc zero)))))) w = record r { r6 = w }
-put r (suc (suc (suc (suc (suc (suc (suc zero))))))) w = record r { r7 = w }
-put r (suc (suc (suc (suc (suc (suc (suc (suc zero)))))))) w = record r { r8 = w }
-put r (suc (suc (suc (suc (suc (suc (suc (suc (suc zero))))))))) w = record r { r9 = w }
-put r (suc (suc (suc (suc (suc (suc (suc (suc (suc (suc zero)))))))))) w = record r { ra = w }
-put r (suc (suc (suc (suc (suc (suc (suc (suc (suc (suc (suc zero))))))))))) w = record r { rb = w }
-put r (suc (suc (suc (suc (suc (suc (suc (suc (suc (suc (suc (suc zero)))))))))))) w = record r { rc = w }
-put r (suc (suc (suc (suc (suc (suc (suc (suc (suc (suc (suc (suc (suc zero))))))))))))) w = record r { rd = w }
-put r (suc (suc (suc (suc (suc (suc (suc (suc (suc (suc (suc (suc (suc (suc zero)))))))))))))) w = record r { re = w }
-put r (suc (suc (suc (suc (suc (suc (suc (suc (suc (suc (suc (suc (suc (suc (suc n))))))))))))))) w = record r { rf = w }
+put r (1+ zero) w = record r { r1 = w }
+put r (2+ zero) w = record r { r2 = w }
+put r (3+ zero) w = record r { r3 = w }
+put r (4+ zero) w = record r { r4 = w }
+put r (5+ zero) w = record r { r5 = w }
+put r (6+ zero) w = record r { r6 = w }
+put r (7+ zero) w = record r { r7 = w }
+put r (8+ zero) w = record r { r8 = w }
+put r (9+ zero) w = record r { r9 = w }
+put r (10+ zero) w = record r { ra = w }
+put r (11+ zero) w = record r { rb = w }
+put r (12+ zero) w = record r { rc = w }
+put r (13+ zero) w = record r { rd = w }
+put r (14+ zero) w = record r { re = w }
+put r _ w = record r { rf = w }
 
 -- all registers 0
 abbrev pub zeros : Bank

@@ -1,4 +1,5 @@
 pub mod Bit
+pub mod Numerals
 pub mod Bank
 pub mod Opcodes
 pub mod Instruction

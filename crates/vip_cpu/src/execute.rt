@@ -6,109 +6,16 @@ ghost use Rattle.std.specs.Prelude.{◌≡◌, ◌≤◌, true, false, not};
 ghost use Rattle.machine.specs.Bank.{value, get, up};
 ghost use Rattle.machine.specs.Instruction.{effect, inputs, at, stepped, branched, long_branched};
 ghost use Rattle.vip_isa.specs.Rows.{IsValid};
-ghost use Rattle.vip_cpu.specs.Groups.{group_of, plain_cycles};
+ghost use Rattle.vip_cpu.specs.Groups.{memory_kind, register_kind, logic_kind, arithmetic_kind, short_branch_kind, long_branch_kind, skip_kind, control_kind, input_output_kind, plain_cycles};
 ghost use Rattle.vip_cpu.specs.Acts.{Acts};
 
 use crate::bus::Bus;
+use crate::groups::{
+    Arithmetic, Control, Group, InputOutput, Logic, LongBranch, Memory, Register, ShortBranch,
+    Skip, group_of,
+};
 use crate::registers::Registers;
-use machine::Kind;
 use vip_isa::Op;
-
-/// A group of instructions.
-#[derive(Clone, Copy)]
-enum Group {
-    /// Memory reference.
-    Memory,
-    /// Register operations.
-    Register,
-    /// Logic operations.
-    Logic,
-    /// Arithmetic operations.
-    Arithmetic,
-    /// Short branches.
-    ShortBranch,
-    /// Long branches.
-    LongBranch,
-    /// Skips.
-    Skip,
-    /// Control, with opcode 68, which does nothing more.
-    Control,
-    /// Input and output byte transfer.
-    InputOutput,
-}
-
-/// The group of a kind.
-#[inline(always)]
-fn group_of(kind: Kind) -> Group
-    ensures { result ≡ group_of kind }
-{
-    match kind {
-        Kind::Ldn | Kind::Lda | Kind::Ldx | Kind::Ldxa | Kind::Ldi | Kind::Str | Kind::Stxd =>
-            Group::Memory,
-        Kind::Inc | Kind::Dec | Kind::Irx | Kind::Glo | Kind::Plo | Kind::Ghi | Kind::Phi =>
-            Group::Register,
-        Kind::Or
-        | Kind::Ori
-        | Kind::Xor
-        | Kind::Xri
-        | Kind::And
-        | Kind::Ani
-        | Kind::Shr
-        | Kind::Shrc
-        | Kind::Shl
-        | Kind::Shlc => Group::Logic,
-        Kind::Add
-        | Kind::Adi
-        | Kind::Adc
-        | Kind::Adci
-        | Kind::Sd
-        | Kind::Sdi
-        | Kind::Sdb
-        | Kind::Sdbi
-        | Kind::Sm
-        | Kind::Smi
-        | Kind::Smb
-        | Kind::Smbi => Group::Arithmetic,
-        Kind::Br
-        | Kind::Bz
-        | Kind::Bnz
-        | Kind::Bdf
-        | Kind::Bnf
-        | Kind::Bq
-        | Kind::Bnq
-        | Kind::B1
-        | Kind::Bn1
-        | Kind::B2
-        | Kind::Bn2
-        | Kind::B3
-        | Kind::Bn3
-        | Kind::B4
-        | Kind::Bn4 => Group::ShortBranch,
-        Kind::Lbr | Kind::Lbz | Kind::Lbnz | Kind::Lbdf | Kind::Lbnf | Kind::Lbq | Kind::Lbnq =>
-            Group::LongBranch,
-        Kind::Skp
-        | Kind::Lskp
-        | Kind::Lsz
-        | Kind::Lsnz
-        | Kind::Lsdf
-        | Kind::Lsnf
-        | Kind::Lsq
-        | Kind::Lsnq
-        | Kind::Lsie => Group::Skip,
-        Kind::Idl
-        | Kind::Nop
-        | Kind::Sep
-        | Kind::Sex
-        | Kind::Seq
-        | Kind::Req
-        | Kind::Sav
-        | Kind::Mark
-        | Kind::Ret
-        | Kind::Dis
-        | Kind::Undefined => Group::Control,
-        Kind::Out | Kind::Inp => Group::InputOutput,
-    }
-}
 
 /// The machine cycles of each opcode whose instruction is plain, and 0 for the others.
 static PLAIN_CYCLES: [u8; 256] = [
@@ -169,158 +76,150 @@ fn branch_far<B: Bus>(s: &mut Registers, bus: &B, taken: bool)
 }
 
 #[inline(always)]
-fn memory_reference<B: Bus>(s: &mut Registers, bus: &mut B, op: Op)
-    requires valid { IsValid op }
-    requires group { group_of op.kind ≡ Group.Memory }
-    ensures regs { s.new ≡ (effect op.kind op.n s.old (inputs s.old (B.byte bus.old) (B.flags bus.old) 0)).regs }
-    ensures acts { let e = effect op.kind op.n s.old (inputs s.old (B.byte bus.old) (B.flags bus.old) 0) in Acts B.writes B.sends B.receives e 0 bus.old bus.new }
+fn memory_reference<B: Bus>(s: &mut Registers, bus: &mut B, row: Memory, n: u8)
+    requires { IsValid (record { kind = memory_kind row; n = n }) }
+    ensures regs { s.new ≡ (effect (memory_kind row) n s.old (inputs s.old (B.byte bus.old) (B.flags bus.old) 0)).regs }
+    ensures acts { let e = effect (memory_kind row) n s.old (inputs s.old (B.byte bus.old) (B.flags bus.old) 0) in Acts B.writes B.sends B.receives e 0 bus.old bus.new }
 {
-    match op.kind {
-        Kind::Ldn => {
-            let byte = bus.read(s.r(op.n));
+    match row {
+        Memory::Ldn => {
+            let byte = bus.read(s.r(n));
             s.load(byte);
         }
-        Kind::Lda => {
-            let byte = bus.read(s.r(op.n));
-            s.increment(op.n);
+        Memory::Lda => {
+            let byte = bus.read(s.r(n));
+            s.increment(n);
             s.load(byte);
         }
-        Kind::Ldx => {
+        Memory::Ldx => {
             let byte = operand(s, bus);
             s.load(byte);
         }
-        Kind::Ldxa => {
+        Memory::Ldxa => {
             let byte = operand(s, bus);
             s.increment(s.x());
             s.load(byte);
         }
-        Kind::Ldi => {
+        Memory::Ldi => {
             let byte = immediate(s, bus);
             s.load(byte);
         }
-        Kind::Str => bus.write(s.r(op.n), s.d()),
-        Kind::Stxd => {
+        Memory::Str => bus.write(s.r(n), s.d()),
+        Memory::Stxd => {
             let address = s.data_pointer();
             s.decrement(s.x());
             bus.write(address, s.d());
         }
-        _ => unreachable!(),
     }
 }
 
 #[inline(always)]
-fn register_operation<B: Bus>(s: &mut Registers, bus: &B, op: Op)
-    requires valid { IsValid op }
-    requires group { group_of op.kind ≡ Group.Register }
-    ensures { s.new ≡ (effect op.kind op.n s.old (inputs s.old (B.byte bus.now) (B.flags bus.now) 0)).regs }
+fn register_operation<B: Bus>(s: &mut Registers, bus: &B, row: Register, n: u8)
+    requires { IsValid (record { kind = register_kind row; n = n }) }
+    ensures { s.new ≡ (effect (register_kind row) n s.old (inputs s.old (B.byte bus.now) (B.flags bus.now) 0)).regs }
 {
-    match op.kind {
-        Kind::Inc => s.increment(op.n),
-        Kind::Dec => s.decrement(op.n),
-        Kind::Irx => s.increment(s.x()),
-        Kind::Glo => s.load(s.low(op.n)),
-        Kind::Plo => s.put_low(op.n),
-        Kind::Ghi => s.load(s.high(op.n)),
-        Kind::Phi => s.put_high(op.n),
-        _ => unreachable!(),
-    }
-}
-
-#[tactic(auto, using(crate::proofs::Words::of_bits))]
-#[inline(always)]
-fn logic_operation<B: Bus>(s: &mut Registers, bus: &B, op: Op)
-    requires { group_of op.kind ≡ Group.Logic }
-    ensures { s.new ≡ (effect op.kind op.n s.old (inputs s.old (B.byte bus.now) (B.flags bus.now) 0)).regs }
-{
-    match op.kind {
-        Kind::Or => {
-            let byte = operand(s, bus);
-            s.load(s.d() | byte);
-        }
-        Kind::Ori => {
-            let byte = immediate(s, bus);
-            s.load(s.d() | byte);
-        }
-        Kind::Xor => {
-            let byte = operand(s, bus);
-            s.load(s.d() ^ byte);
-        }
-        Kind::Xri => {
-            let byte = immediate(s, bus);
-            s.load(s.d() ^ byte);
-        }
-        Kind::And => {
-            let byte = operand(s, bus);
-            s.load(s.d() & byte);
-        }
-        Kind::Ani => {
-            let byte = immediate(s, bus);
-            s.load(s.d() & byte);
-        }
-        Kind::Shr => s.shift_right(false),
-        Kind::Shrc => s.shift_right(s.df()),
-        Kind::Shl => s.shift_left(false),
-        Kind::Shlc => s.shift_left(s.df()),
-        _ => unreachable!(),
+    match row {
+        Register::Inc => s.increment(n),
+        Register::Dec => s.decrement(n),
+        Register::Irx => s.increment(s.x()),
+        Register::Glo => s.load(s.low(n)),
+        Register::Plo => s.put_low(n),
+        Register::Ghi => s.load(s.high(n)),
+        Register::Phi => s.put_high(n),
     }
 }
 
 #[tactic(auto, using(crate::proofs::Words::of_bits))]
 #[inline(always)]
-fn arithmetic_operation<B: Bus>(s: &mut Registers, bus: &B, op: Op)
-    requires { group_of op.kind ≡ Group.Arithmetic }
-    ensures { s.new ≡ (effect op.kind op.n s.old (inputs s.old (B.byte bus.now) (B.flags bus.now) 0)).regs }
+fn logic_operation<B: Bus>(s: &mut Registers, bus: &B, row: Logic)
+    ensures { s.new ≡ (effect (logic_kind row) 0 s.old (inputs s.old (B.byte bus.now) (B.flags bus.now) 0)).regs }
 {
-    match op.kind {
-        Kind::Add => {
+    match row {
+        Logic::Or => {
+            let byte = operand(s, bus);
+            s.load(s.d() | byte);
+        }
+        Logic::Ori => {
+            let byte = immediate(s, bus);
+            s.load(s.d() | byte);
+        }
+        Logic::Xor => {
+            let byte = operand(s, bus);
+            s.load(s.d() ^ byte);
+        }
+        Logic::Xri => {
+            let byte = immediate(s, bus);
+            s.load(s.d() ^ byte);
+        }
+        Logic::And => {
+            let byte = operand(s, bus);
+            s.load(s.d() & byte);
+        }
+        Logic::Ani => {
+            let byte = immediate(s, bus);
+            s.load(s.d() & byte);
+        }
+        Logic::Shr => s.shift_right(false),
+        Logic::Shrc => s.shift_right(s.df()),
+        Logic::Shl => s.shift_left(false),
+        Logic::Shlc => s.shift_left(s.df()),
+    }
+}
+
+#[tactic(auto, using(crate::proofs::Words::of_bits))]
+#[inline(always)]
+fn arithmetic_operation<B: Bus>(s: &mut Registers, bus: &B, row: Arithmetic)
+    ensures { s.new ≡ (effect (arithmetic_kind row) 0 s.old (inputs s.old (B.byte bus.now) (B.flags bus.now) 0)).regs }
+{
+    match row {
+        Arithmetic::Add => {
             let byte = operand(s, bus);
             s.add(byte, s.d(), false);
         }
-        Kind::Adi => {
+        Arithmetic::Adi => {
             let byte = immediate(s, bus);
             s.add(s.d(), byte, false);
         }
-        Kind::Adc => {
+        Arithmetic::Adc => {
             let byte = operand(s, bus);
             s.add(byte, s.d(), s.df());
         }
-        Kind::Adci => {
+        Arithmetic::Adci => {
             let byte = immediate(s, bus);
             s.add(byte, s.d(), s.df());
         }
-        Kind::Sd => {
+        Arithmetic::Sd => {
             let byte = operand(s, bus);
             s.subtract(byte, s.d(), false);
         }
-        Kind::Sdi => {
+        Arithmetic::Sdi => {
             let byte = immediate(s, bus);
             s.subtract(byte, s.d(), false);
         }
-        Kind::Sdb => {
+        Arithmetic::Sdb => {
             let byte = operand(s, bus);
             s.subtract(byte, s.d(), !s.df());
         }
-        Kind::Sdbi => {
+        Arithmetic::Sdbi => {
             let byte = immediate(s, bus);
             s.subtract(byte, s.d(), !s.df());
         }
-        Kind::Sm => {
+        Arithmetic::Sm => {
             let byte = operand(s, bus);
             s.subtract(s.d(), byte, false);
         }
-        Kind::Smi => {
+        Arithmetic::Smi => {
             let byte = immediate(s, bus);
             s.subtract(s.d(), byte, false);
         }
-        Kind::Smb => {
+        Arithmetic::Smb => {
             let byte = operand(s, bus);
             s.subtract(s.d(), byte, !s.df());
         }
-        Kind::Smbi => {
+        Arithmetic::Smbi => {
             let byte = immediate(s, bus);
             s.subtract(s.d(), byte, !s.df());
         }
-        _ => unreachable!(),
     }
 }
 
@@ -349,122 +248,112 @@ fn branch_unless<B: Bus>(s: &mut Registers, bus: &mut B, flag: u8)
 }
 
 #[inline(always)]
-fn short_branch<B: Bus>(s: &mut Registers, bus: &mut B, op: Op)
-    requires { group_of op.kind ≡ Group.ShortBranch }
-    ensures regs { s.new ≡ (effect op.kind op.n s.old (inputs s.old (B.byte bus.old) (B.flags bus.old) 0)).regs }
+fn short_branch<B: Bus>(s: &mut Registers, bus: &mut B, row: ShortBranch)
+    ensures regs { s.new ≡ (effect (short_branch_kind row) 0 s.old (inputs s.old (B.byte bus.old) (B.flags bus.old) 0)).regs }
     ensures bus { bus.new ≡ bus.old }
 {
-    match op.kind {
-        Kind::Br => branch(s, bus, true),
-        Kind::Bz => branch(s, bus, s.d() == 0),
-        Kind::Bnz => branch(s, bus, s.d() != 0),
-        Kind::Bdf => branch(s, bus, s.df()),
-        Kind::Bnf => branch(s, bus, !s.df()),
-        Kind::Bq => branch(s, bus, s.q()),
-        Kind::Bnq => branch(s, bus, !s.q()),
-        Kind::B1 => branch_if(s, bus, 1),
-        Kind::Bn1 => branch_unless(s, bus, 1),
-        Kind::B2 => branch_if(s, bus, 2),
-        Kind::Bn2 => branch_unless(s, bus, 2),
-        Kind::B3 => branch_if(s, bus, 3),
-        Kind::Bn3 => branch_unless(s, bus, 3),
-        Kind::B4 => branch_if(s, bus, 4),
-        Kind::Bn4 => branch_unless(s, bus, 4),
-        _ => unreachable!(),
+    match row {
+        ShortBranch::Br => branch(s, bus, true),
+        ShortBranch::Bz => branch(s, bus, s.d() == 0),
+        ShortBranch::Bnz => branch(s, bus, s.d() != 0),
+        ShortBranch::Bdf => branch(s, bus, s.df()),
+        ShortBranch::Bnf => branch(s, bus, !s.df()),
+        ShortBranch::Bq => branch(s, bus, s.q()),
+        ShortBranch::Bnq => branch(s, bus, !s.q()),
+        ShortBranch::B1 => branch_if(s, bus, 1),
+        ShortBranch::Bn1 => branch_unless(s, bus, 1),
+        ShortBranch::B2 => branch_if(s, bus, 2),
+        ShortBranch::Bn2 => branch_unless(s, bus, 2),
+        ShortBranch::B3 => branch_if(s, bus, 3),
+        ShortBranch::Bn3 => branch_unless(s, bus, 3),
+        ShortBranch::B4 => branch_if(s, bus, 4),
+        ShortBranch::Bn4 => branch_unless(s, bus, 4),
     }
 }
 
 #[inline(always)]
-fn long_branch<B: Bus>(s: &mut Registers, bus: &B, op: Op)
-    requires { group_of op.kind ≡ Group.LongBranch }
-    ensures { s.new ≡ (effect op.kind op.n s.old (inputs s.old (B.byte bus.now) (B.flags bus.now) 0)).regs }
+fn long_branch<B: Bus>(s: &mut Registers, bus: &B, row: LongBranch)
+    ensures { s.new ≡ (effect (long_branch_kind row) 0 s.old (inputs s.old (B.byte bus.now) (B.flags bus.now) 0)).regs }
 {
-    match op.kind {
-        Kind::Lbr => branch_far(s, bus, true),
-        Kind::Lbz => branch_far(s, bus, s.d() == 0),
-        Kind::Lbnz => branch_far(s, bus, s.d() != 0),
-        Kind::Lbdf => branch_far(s, bus, s.df()),
-        Kind::Lbnf => branch_far(s, bus, !s.df()),
-        Kind::Lbq => branch_far(s, bus, s.q()),
-        Kind::Lbnq => branch_far(s, bus, !s.q()),
-        _ => unreachable!(),
+    match row {
+        LongBranch::Lbr => branch_far(s, bus, true),
+        LongBranch::Lbz => branch_far(s, bus, s.d() == 0),
+        LongBranch::Lbnz => branch_far(s, bus, s.d() != 0),
+        LongBranch::Lbdf => branch_far(s, bus, s.df()),
+        LongBranch::Lbnf => branch_far(s, bus, !s.df()),
+        LongBranch::Lbq => branch_far(s, bus, s.q()),
+        LongBranch::Lbnq => branch_far(s, bus, !s.q()),
     }
 }
 
 #[inline(always)]
-fn skip<B: Bus>(s: &mut Registers, bus: &B, op: Op)
-    requires { group_of op.kind ≡ Group.Skip }
-    ensures { s.new ≡ (effect op.kind op.n s.old (inputs s.old (B.byte bus.now) (B.flags bus.now) 0)).regs }
+fn skip<B: Bus>(s: &mut Registers, bus: &B, row: Skip)
+    ensures { s.new ≡ (effect (skip_kind row) 0 s.old (inputs s.old (B.byte bus.now) (B.flags bus.now) 0)).regs }
 {
-    match op.kind {
-        Kind::Skp => s.increment(s.p()),
-        Kind::Lskp => s.skip(true),
-        Kind::Lsz => s.skip(s.d() == 0),
-        Kind::Lsnz => s.skip(s.d() != 0),
-        Kind::Lsdf => s.skip(s.df()),
-        Kind::Lsnf => s.skip(!s.df()),
-        Kind::Lsq => s.skip(s.q()),
-        Kind::Lsnq => s.skip(!s.q()),
-        Kind::Lsie => s.skip(s.ie()),
-        _ => unreachable!(),
+    match row {
+        Skip::Skp => s.increment(s.p()),
+        Skip::Lskp => s.skip(true),
+        Skip::Lsz => s.skip(s.d() == 0),
+        Skip::Lsnz => s.skip(s.d() != 0),
+        Skip::Lsdf => s.skip(s.df()),
+        Skip::Lsnf => s.skip(!s.df()),
+        Skip::Lsq => s.skip(s.q()),
+        Skip::Lsnq => s.skip(!s.q()),
+        Skip::Lsie => s.skip(s.ie()),
     }
 }
 
 #[inline(always)]
-fn control<B: Bus>(s: &mut Registers, bus: &mut B, op: Op)
-    requires valid { IsValid op }
-    requires group { group_of op.kind ≡ Group.Control }
-    ensures regs { s.new ≡ (effect op.kind op.n s.old (inputs s.old (B.byte bus.old) (B.flags bus.old) 0)).regs }
-    ensures acts { let e = effect op.kind op.n s.old (inputs s.old (B.byte bus.old) (B.flags bus.old) 0) in Acts B.writes B.sends B.receives e 0 bus.old bus.new }
+fn control<B: Bus>(s: &mut Registers, bus: &mut B, row: Control, n: u8)
+    requires { IsValid (record { kind = control_kind row; n = n }) }
+    ensures regs { s.new ≡ (effect (control_kind row) n s.old (inputs s.old (B.byte bus.old) (B.flags bus.old) 0)).regs }
+    ensures acts { let e = effect (control_kind row) n s.old (inputs s.old (B.byte bus.old) (B.flags bus.old) 0) in Acts B.writes B.sends B.receives e 0 bus.old bus.new }
 {
-    match op.kind {
-        Kind::Idl => s.start_idling(),
-        Kind::Nop | Kind::Undefined => {}
-        Kind::Sep => s.set_p(op.n),
-        Kind::Sex => s.set_x(op.n),
-        Kind::Seq => s.set_q(true),
-        Kind::Req => s.set_q(false),
-        Kind::Sav => bus.write(s.data_pointer(), s.t()),
-        Kind::Mark => {
+    match row {
+        Control::Idl => s.start_idling(),
+        Control::Nop | Control::Undefined => {}
+        Control::Sep => s.set_p(n),
+        Control::Sex => s.set_x(n),
+        Control::Seq => s.set_q(true),
+        Control::Req => s.set_q(false),
+        Control::Sav => bus.write(s.data_pointer(), s.t()),
+        Control::Mark => {
             let address = s.r(2);
             let xp = s.mark();
             bus.write(address, xp);
         }
-        Kind::Ret => {
+        Control::Ret => {
             let byte = operand(s, bus);
             s.return_to(byte, true);
         }
-        Kind::Dis => {
+        Control::Dis => {
             let byte = operand(s, bus);
             s.return_to(byte, false);
         }
-        _ => unreachable!(),
     }
 }
 
 /// Answers the byte that INP took from the bus, and 0 for OUT.
 #[inline(always)]
-fn input_output<B: Bus>(s: &mut Registers, bus: &mut B, op: Op) -> u8
-    requires valid { IsValid op }
-    requires group { group_of op.kind ≡ Group.InputOutput }
-    ensures regs { s.new ≡ (effect op.kind op.n s.old (inputs s.old (B.byte bus.old) (B.flags bus.old) result)).regs }
-    ensures acts { let e = effect op.kind op.n s.old (inputs s.old (B.byte bus.old) (B.flags bus.old) result) in Acts B.writes B.sends B.receives e result bus.old bus.new }
+fn input_output<B: Bus>(s: &mut Registers, bus: &mut B, row: InputOutput, n: u8) -> u8
+    requires { IsValid (record { kind = input_output_kind row; n = n }) }
+    ensures regs { s.new ≡ (effect (input_output_kind row) n s.old (inputs s.old (B.byte bus.old) (B.flags bus.old) result)).regs }
+    ensures acts { let e = effect (input_output_kind row) n s.old (inputs s.old (B.byte bus.old) (B.flags bus.old) result) in Acts B.writes B.sends B.receives e result bus.old bus.new }
 {
-    match op.kind {
-        Kind::Out => {
+    match row {
+        InputOutput::Out => {
             let byte = operand(s, bus);
             s.increment(s.x());
-            bus.out(op.n, byte);
+            bus.out(n, byte);
             0
         }
-        Kind::Inp => {
+        InputOutput::Inp => {
             let address = s.data_pointer();
-            let byte = bus.inp(op.n);
+            let byte = bus.inp(n);
             s.load(byte);
             bus.write(address, byte);
             byte
         }
-        _ => unreachable!(),
     }
 }
 
@@ -476,15 +365,15 @@ pub fn execute<B: Bus>(s: &mut Registers, bus: &mut B, op: Op) -> u8
     ensures acts { let e = effect op.kind op.n s.old (inputs s.old (B.byte bus.old) (B.flags bus.old) result) in Acts B.writes B.sends B.receives e result bus.old bus.new }
 {
     match group_of(op.kind) {
-        Group::Memory => memory_reference(s, bus, op),
-        Group::Register => register_operation(s, bus, op),
-        Group::Logic => logic_operation(s, bus, op),
-        Group::Arithmetic => arithmetic_operation(s, bus, op),
-        Group::ShortBranch => short_branch(s, bus, op),
-        Group::LongBranch => long_branch(s, bus, op),
-        Group::Skip => skip(s, bus, op),
-        Group::Control => control(s, bus, op),
-        Group::InputOutput => return input_output(s, bus, op),
+        Group::Memory(row) => memory_reference(s, bus, row, op.n),
+        Group::Register(row) => register_operation(s, bus, row, op.n),
+        Group::Logic(row) => logic_operation(s, bus, row),
+        Group::Arithmetic(row) => arithmetic_operation(s, bus, row),
+        Group::ShortBranch(row) => short_branch(s, bus, row),
+        Group::LongBranch(row) => long_branch(s, bus, row),
+        Group::Skip(row) => skip(s, bus, row),
+        Group::Control(row) => control(s, bus, row, op.n),
+        Group::InputOutput(row) => return input_output(s, bus, row, op.n),
     }
     0
 }

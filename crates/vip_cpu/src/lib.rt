@@ -46,6 +46,7 @@
 mod bus;
 mod cpu;
 mod execute;
+mod groups;
 mod registers;
 
 pub use bus::Bus;
