@@ -1,11 +1,10 @@
 -- A certificate that is found for a routine.
-use Rattle.std.specs.Prelude.{◌≡◌, ℕ, ◌<◌, ◌≤◌, ◌⊎◌, List, length, [], ◌∷◌, ◌++◌, codes, decimal, drop, flat_map, Option, Some, None, Ok}
+use Rattle.std.specs.Prelude.{◌≡◌, ℕ, ◌<◌, ◌≤◌, ◌⊎◌, List, length, [], ◌∷◌, ◌++◌, codes, decimal, drop, flat_map, Option, Some, None, Ok, false}
 use Rattle.std.specs.List.{All}
 use Rattle.vip_byte.specs.HexText.{hex2, hex4}
 use Rattle.vip_byte.specs.Reading.{read}
 use Rattle.cycle_check.specs.declared.fault.TimingCause.{TimingCause}
-use Rattle.cycle_check.specs.declared.fault.TimingCause.TheVariants.{Opcode, Loop, Most}
-use Rattle.cycle_check.specs.declared.fault.TimingCause.TheVariants as cause
+use Rattle.cycle_check.specs.declared.fault.TimingCause.TheVariants.{Opcode}
 use Rattle.cycle_check.specs.declared.fault.TimingFault.{TimingFault}
 use Rattle.cycle_check.specs.declared.fault.TimingFault.TheVariants.{NotFound, NoMemory}
 use Rattle.cycle_check.specs.declared.grammar.Bound.{Bound}
@@ -13,10 +12,8 @@ use Rattle.cycle_check.specs.declared.grammar.Fact.{Fact}
 use Rattle.cycle_check.specs.declared.grammar.Fact.TheVariants.{Any, Copy, NonZero, Is}
 use Rattle.cycle_check.specs.declared.grammar.Line.{Line}
 use Rattle.cycle_check.specs.Certificate.{certificate_format, certificate_of}
-use Rattle.cycle_check.specs.Closed.{bytes_at, checked, left, line_at}
+use Rattle.cycle_check.specs.Closed.{bytes_at, checked, instruction_at, is_allowed, left, line_at}
 use Rattle.cycle_check.specs.Exits.{exits, remarks_text}
-use Rattle.cycle_check.specs.Obstacles.{AreLeast, AreOfWays, ArePaced, IsBarred, IsGrown, IsMost, IsRefused, IsUncounted, IsUnpaid}
-use Rattle.cycle_check.specs.Reading.{AreStrict}
 
 -- ---- the text of a certificate: single blanks, upper-case digits, no leading zeros
 
@@ -84,46 +81,21 @@ pub record IsCertificate (rom : List ℕ) (entry p k : ℕ) (text : List ℕ) : 
   pub leaves : All (λ exit. leaves_rom exit.to) (exits rom bound lines)
   pub limit : HasLimit bound lines
 
--- One is found: it is the text of lines of exactly the addresses that are reached, each with the least BASE, and with the least STEP of its loop or before the
--- lines behind it.
-pub record IsFoundFrom (rom : List ℕ) (start : Bound) (text : List ℕ) : Type 0 where
-  pub limit : ℕ
-  pub lines : List Line
-  pub of_ways : AreOfWays rom start lines
-  pub least : AreLeast rom start lines
-  pub paced : ArePaced rom start lines
-  pub is : text ≡ timing_text rom (record start { limit = limit }) lines
-  pub certificate : IsCertificate rom start.entry start.p start.k text
-
--- from this entry on, with this program counter and this counter
+-- for this entry, this program counter and this counter
 abbrev pub IsFound : List ℕ → ℕ → ℕ → ℕ → List ℕ → Type 0
-IsFound rom entry p k text = IsFoundFrom rom (record { entry = entry; p = p; k = k; limit = 0 }) text
+IsFound = IsCertificate
 
 -- ---- why none is found
 
--- What stands against lines at an address: a turn that isn't paid for, an opcode. Of the entry: that BASEs grow without end, that the program counter is to
--- count, or that no register has such a number.
-pub data Against (rom : List ℕ) (bound : Bound) (lines : List Line) : ℕ → Type 0 where
-  Turn : (address : ℕ) → IsUnpaid rom bound lines address → Against rom bound lines address
-  Barred : (address : ℕ) → IsBarred rom bound lines address → Against rom bound lines address
-  Grows : IsGrown rom bound lines → Against rom bound lines bound.entry
-  Same : bound.p ≡ bound.k → Against rom bound lines bound.entry
-  Registers : (15 < bound.p) ⊎ (15 < bound.k) → Against rom bound lines bound.entry
-
 module _ (rom : List ℕ) (bound : Bound) where
-  -- Lines of exactly the addresses that are reached, one for each, are no certificate for what stands against them at the address.
-  pub record IsUnfounded (address : ℕ) : Type 0 where
-    pub lines : List Line
-    pub strict : AreStrict lines
-    pub of_ways : AreOfWays rom bound lines
-    pub against : Against rom bound lines address
+  -- no line of the address is allowed that knows no X
+  abbrev pub IsRefused : ℕ → Type 0
+  IsRefused address = (line : Line) → line.address ≡ address → line.x ≡ None → is_allowed bound line (instruction_at rom address) ≡ false
 
-  -- what is said of an address is true of the source
+  -- What `Opcode` says of an address is true of the source. The other causes promise nothing.
   abbrev pub IsTrueAt : TimingCause → ℕ → Type 0
-  IsTrueAt Opcode address = IsRefused rom bound address
-  IsTrueAt Loop address = IsUncounted rom bound address
-  IsTrueAt Most address = IsMost rom bound address
-  IsTrueAt cause.Fact address = IsUnfounded address
+  IsTrueAt Opcode address = IsRefused address
+  IsTrueAt cause address = Unit {0}
 
 abbrev pub IsTimingFault : List ℕ → Bound → TimingFault → Type 0
 IsTimingFault rom bound (NotFound obstacle) = IsTrueAt rom bound obstacle.cause obstacle.address × (obstacle.bytes ≡ bytes_at rom obstacle.address)

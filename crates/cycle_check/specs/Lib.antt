@@ -5,8 +5,4 @@ pub mod Closed
 pub mod Leaving
 pub mod FaultNames
 pub mod Exits
-pub mod Obstacles
-pub mod Forward
-pub mod Pace
 pub mod Found
-pub mod Reach

@@ -32,7 +32,8 @@ impl Model for Draft {
 }
 
 impl Draft {
-    fn empty(alloc: Global) -> Draft
+    /// Returns a certificate of which nothing was read.
+    pub fn empty(alloc: Global) -> Draft
         ensures { result ≡ certificate_of [] }
     {
         Draft {
@@ -54,8 +55,8 @@ impl Draft {
         self.lines.as_slice()
     }
 
-    // Adds the line of an address behind the others.
-    fn push(&mut self, line: Line) -> Result<(), AllocError>
+    /// Adds the line of an address after the others.
+    pub fn push(&mut self, line: Line) -> Result<(), AllocError>
         requires { is_behind self.old.lines line.address ≡ true }
         ensures ok { OnOk result (self.new ≡ record self.old { lines = self.old.lines ++ line ∷ [] }) }
         ensures err { OnErr result (self.new ≡ self.old) }

@@ -1,11 +1,12 @@
-//! The strongly connected components of a routine, from its leaves back, and the turns in them that aren't counted.
+//! The strongly connected components of a routine, from its leaves back, and the iterations in them
+//! that aren't counted.
 
 use crate::forward::ROM_SIZE;
 use crate::graph::{Graph, Node, PLACES};
 use std::alloc::{AllocError, Global};
 
-/// A line in the order in which costs are found. Its component is behind those that it leads to, and it is behind the lines of its component that it
-/// leads to without taking from the counter.
+/// A line in the order in which costs are found. Its component is after those that it leads to, and
+/// the line is after those of its component that it leads to without taking from the counter.
 #[derive(Clone, Copy)]
 pub struct Member {
     pub place: u16,
@@ -18,18 +19,17 @@ pub struct Member {
     rank: usize,
 }
 
-/// What is found of a routine. A turn is addresses each of which leads to the next one, and the last one to the first; none where there is no address.
+/// What is found of a routine.
 #[derive(Drop)]
 pub struct Found {
-    /// The first turn that isn't counted.
+    /// The first iteration that isn't counted, as addresses each of which leads to the next one, and
+    /// the last one to the first; none if there is no such iteration.
     pub turn: Vec<u16>,
-    /// The first one that takes nothing from the counter.
-    pub unpaid: Vec<u16>,
-    /// The lines of the routine, each component behind those that it leads to.
+    /// The lines of the routine, each component after those that it leads to.
     pub members: Vec<Member>,
 }
 
-// For each place with a line from which ones those were met first to which it leads.
+// For each place with a line, from which ones those were met first to which it leads.
 #[derive(Drop)]
 struct Sources {
     sources: Vec<Vec<Option<u16>>>,
@@ -72,7 +72,7 @@ impl Sources {
         place
     }
 
-    // The turn from a place back to it.
+    // The iteration from a place back to it.
     fn turn_at(&self, alloc: Global, place: u16) -> Result<Vec<u16>, AllocError> {
         let mut turn = Vec::new(alloc);
         let mut at = place;
@@ -91,13 +91,12 @@ impl Sources {
     }
 }
 
-/// Finds the components of a routine, and turns in it that aren't counted.
+/// Finds the components of a routine, and an iteration in it that isn't counted.
 pub fn find_components(alloc: Global, graph: &Graph) -> Result<Found, AllocError> {
     let reach = sources_in(alloc, graph, true)?;
     let unpaid = sources_in(alloc, graph, false)?;
     Ok(Found {
         turn: first_turn(alloc, graph, &reach, &unpaid)?,
-        unpaid: first_unpaid(alloc, &unpaid)?,
         members: members_of(alloc, graph, &reach, &unpaid)?,
     })
 }
@@ -111,7 +110,8 @@ fn sources_in(alloc: Global, graph: &Graph, counts: bool) -> Result<Sources, All
     Ok(Sources { sources })
 }
 
-// The turn that isn't counted whose place is the first: it takes nothing from the counter, or its line there may raise it.
+// The iteration that isn't counted whose place is the first: it takes nothing from the counter, or
+// its line there may raise it.
 fn first_turn(
     alloc: Global,
     graph: &Graph,
@@ -126,16 +126,6 @@ fn first_turn(
             if node.raises > 0 && reach.leads(place, place) {
                 return reach.turn_at(alloc, place);
             }
-        }
-    }
-    Ok(Vec::new(alloc))
-}
-
-// The turn that takes nothing from the counter whose place is the first.
-fn first_unpaid(alloc: Global, unpaid: &Sources) -> Result<Vec<u16>, AllocError> {
-    for place in 0..PLACES {
-        if unpaid.leads(place, place) {
-            return unpaid.turn_at(alloc, place);
         }
     }
     Ok(Vec::new(alloc))

@@ -1,4 +1,5 @@
-//! What is left at each line: the least STEP of a component that pays a turn of it, and then the least bases.
+//! What is left at each line: the least STEP of a component that pays for an iteration of it, and
+//! then the least BASEs.
 
 ghost use Rattle.std.specs.Prelude.{◌≤◌, length};
 
@@ -7,10 +8,11 @@ use crate::components::Member;
 use crate::graph::{Graph, Node};
 use crate::table::Way;
 
-/// The values of the counter among which is one at which a line costs most: what it costs is straight between 1 and 254.
+/// The values of the counter among which is one at which a line costs most: between 1 and 254 the
+/// cost is linear.
 const EXTREMES: [u8; 4] = [0, 1, 254, 255];
 
-/// How often a range of STEP is halved.
+/// The number of times that a range of STEP is halved.
 const MOST_HALVINGS: usize = 32;
 
 /// Finds what is left at each line of a routine, from its leaves back.
@@ -27,8 +29,8 @@ pub fn find_costs(graph: &mut Graph, members: &[Member]) {
     }
 }
 
-/// How many of the first members are of one component.
-pub fn first_count(members: &[Member]) -> usize
+// How many of the first members are of one component.
+fn first_count(members: &[Member]) -> usize
     ensures { result ≤ length members.now }
 {
     for count in 0..members.len() {
@@ -39,7 +41,8 @@ pub fn first_count(members: &[Member]) -> usize
     members.len()
 }
 
-// A line that doesn't lead back to itself takes the least BASE with the STEPs of the lines behind it, and then the least STEP with which its BASE is that.
+// A line that doesn't lead back to itself takes the least BASE with the STEPs of the lines after it,
+// and then the least STEP with which its BASE is that.
 fn settle_line(graph: &mut Graph, member: &Member) {
     let base = base_of(graph, &member.node, step_behind(graph, &member.node));
     set_costs(
@@ -50,7 +53,7 @@ fn settle_line(graph: &mut Graph, member: &Member) {
     );
 }
 
-// The greatest STEP of the lines behind a line.
+// The greatest STEP of the lines after a line.
 fn step_behind(graph: &Graph, node: &Node) -> u32 {
     let first = step_on(graph, node, node.ways.first);
     match node.ways.second {
@@ -59,7 +62,7 @@ fn step_behind(graph: &Graph, node: &Node) -> u32 {
     }
 }
 
-// The STEP of the line at the end of a way, where the line's fact lets the way through.
+// The STEP of the line at the end of a way, if the line's fact lets the way through.
 fn step_on(graph: &Graph, node: &Node, way: Way) -> u32 {
     match graph.node_behind(way) {
         Some(behind) if lets_through(node.line.fact, way.when) => behind.line.step,
@@ -79,7 +82,7 @@ fn step_with(graph: &Graph, node: &Node, base: u32) -> u32 {
     step.min(u64::from(u32::MAX)) as u32
 }
 
-// The lines of a loop take the least STEP with which their bases come to rest.
+// The lines of a loop take the least STEP with which their BASEs come to rest.
 fn settle_loop(graph: &mut Graph, members: &[Member]) {
     let mut low = 0;
     let mut high = cycles_of(members);
@@ -97,7 +100,7 @@ fn settle_loop(graph: &mut Graph, members: &[Member]) {
     rests(graph, members, high);
 }
 
-// The cycles of all lines of a loop, more than which no turn takes.
+// The cycles of all lines of a loop, more than which no iteration takes.
 fn cycles_of(members: &[Member]) -> u32 {
     let mut total = 0u32;
     for member in members {
@@ -106,8 +109,8 @@ fn cycles_of(members: &[Member]) -> u32 {
     total
 }
 
-// Gives the lines of a loop this STEP and the least bases. Whether these come to rest: each round takes them over one more line that takes from
-// the counter.
+// Gives the lines of a loop this STEP and the least BASEs. Whether these come to rest: each round
+// takes them over one more line that takes from the counter.
 fn rests(graph: &mut Graph, members: &[Member], step: u32) -> bool {
     let mut rounds = 2usize;
     for member in members {
@@ -124,7 +127,7 @@ fn rests(graph: &mut Graph, members: &[Member], step: u32) -> bool {
     false
 }
 
-// Raises the bases of a loop to what is behind them. Whether one was raised.
+// Raises the BASEs of a loop to what comes after them. Whether one was raised.
 fn raise_all(graph: &mut Graph, members: &[Member], step: u32) -> bool {
     let mut raised = false;
     for member in members {
@@ -139,8 +142,8 @@ fn raise_all(graph: &mut Graph, members: &[Member], step: u32) -> bool {
     raised
 }
 
-/// Gives the line at a place of a graph a BASE and a STEP.
-pub fn set_costs(graph: &mut Graph, place: u16, base: u32, step: u32) {
+// Gives the line at a place of a graph a BASE and a STEP.
+fn set_costs(graph: &mut Graph, place: u16, base: u32, step: u32) {
     let at = usize::from(place);
     if let Some(mut node) = graph.node(place)
         && at < graph.nodes.len()
@@ -151,8 +154,8 @@ pub fn set_costs(graph: &mut Graph, place: u16, base: u32, step: u32) {
     }
 }
 
-/// The least BASE of a line with a STEP that pays for the lines behind it as they are.
-pub fn base_of(graph: &Graph, node: &Node, step: u32) -> u32 {
+// The least BASE of a line with a STEP that pays for the lines after it as they are.
+fn base_of(graph: &Graph, node: &Node, step: u32) -> u32 {
     let mut base = 0u64;
     for counter in EXTREMES {
         let paid = u64::from(step) * u64::from(counter);
@@ -161,7 +164,8 @@ pub fn base_of(graph: &Graph, node: &Node, step: u32) -> u32 {
     base.min(u64::from(u32::MAX)) as u32
 }
 
-// The most cycles that are left at a line at a value of the counter, with the lines behind it as they are.
+// The most cycles that are left at a line at a value of the counter, with the lines after it as they
+// are.
 fn need_at(graph: &Graph, node: &Node, counter: u8) -> u64 {
     if !admits(node.line.fact, counter) {
         return 0;
@@ -173,7 +177,7 @@ fn need_at(graph: &Graph, node: &Node, counter: u8) -> u64 {
     }
 }
 
-// The same on one way, where it is open.
+// The same on one way, if it is open.
 fn need_on(graph: &Graph, node: &Node, way: Way, counter: u8) -> u64 {
     if !is_open(way.when, known_d(node.line.fact, counter)) {
         return 0;

@@ -69,18 +69,22 @@ impl From<AllocError> for CertFault {
 }
 
 /// Why no certificate of a routine was found.
+///
+/// `Opcode` is true of the instruction. The other causes name a line at which the search gave up,
+/// and promise nothing: another certificate may exist.
 #[derive(Clone, Copy, Debug, Error)]
 #[error("{}", self.name())]
 pub enum TimingCause {
-    /// Ways lead to the address, and no line is allowed there with an X that all of them give.
+    /// The instruction isn't allowed if X isn't known: no certificate has it, or it changes R(X).
+    /// The search found no X there that is neither P nor K.
     Opcode,
-    /// A turn leads from the address back to it that isn't counted: none of its instructions assigns the counter, or one of them may raise it, for all that one
-    /// fact tells there.
+    /// An iteration from the address back to it isn't counted, as far as the search knows: none of
+    /// its instructions assigns the counter, or one of them may raise it.
     Loop,
-    /// The least BASE at the address passes 1,000,000.
+    /// The search found a BASE or STEP above 1,000,000 for the line of the address.
     Most,
-    /// Lines that say one fact each are no certificate: a turn at the address may put back into the counter what it takes, or its line isn't allowed; or, said
-    /// of the entry, no BASEs close them, or there aren't two registers P and K.
+    /// The line of the address says a fact with which the certificate isn't accepted. For the
+    /// entry, it can also mean that there aren't two registers P and K.
     Fact,
 }
 
@@ -113,7 +117,7 @@ pub enum TimingFault {
     NoMemory,
 }
 
-/// What stands against a certificate at an address of a ROM.
+/// Returns why no certificate was found, and at which address of a ROM.
 pub fn obstacle(rom: &[u8], cause: TimingCause, address: u16) -> TimingFault
     ensures { result ≡ NotFound (record { cause = cause; address = address; bytes = bytes_at rom.now address }) }
 {

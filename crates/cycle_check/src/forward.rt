@@ -1,13 +1,7 @@
-//! The way forward from an entry: which addresses it leads to, what is known of X and D there, and which facts no line can show.
+//! The way forward from an entry: which addresses it leads to, and what is known of X, D and the
+//! counter there.
 //!
-//! That a certificate is right doesn't rest on what is found here. What is said where none is found does: so the contracts say of what is known that it is
-//! true of the source (`specs/Forward.antt`), and no more.
-
-ghost use Rattle.std.specs.Prelude.{◌≡◌, ℕ, ◌+◌, ◌<◌, ◌≤◌, OnOk, IfOk, IfErr, IfSome, MatchOption, None, Option, true};
-ghost use Rattle.cycle_check.specs.Closed.{fits_x, instruction_at, ways_from};
-ghost use Rattle.cycle_check.specs.Found.{IsTimingFault};
-ghost use Rattle.cycle_check.specs.Forward.{IsKnown, IsTrueOf, StaysTrue};
-ghost use Rattle.cycle_check.specs.Obstacles.{IsLost, IsOneOf, MayBeAllowed, asks_d, asks_here, ends_here, in_rom, only_next};
+//! Nothing that is found here is relied on. `cycles` checks the certificate that the search makes.
 
 use crate::closed::{
     Instruction, instruction_at, is_allowed, is_open, is_shown, lets_through, ways_from,
@@ -16,24 +10,25 @@ use crate::fault::{TimingCause, TimingFault, obstacle};
 use crate::grammar::{Bound, Fact, Line};
 use crate::known::Knowledge;
 use crate::table::{Way, Ways, assigns_d};
-use crate::turn::assigns_low;
 use arrayvec::ArrayVec;
 use std::alloc::Global;
-use vip_isa::Kind;
+use vip_isa::{Kind, Op};
 
 /// The bytes of the ROM.
 pub const ROM_SIZE: usize = 2_048;
 
-/// An address is followed anew where less is known of it: of X, and of three facts. So no more of them ever wait.
-const MOST_TURNS: usize = 10_240;
+/// An address is followed again if less is known of it: of X, and of three facts. So no more of
+/// them ever wait.
+const MOST_VISITS: usize = 10_240;
 
-/// Each pass but the last one bars a fact at some address.
+/// Each pass except the last one bars a fact at some address.
 const MOST_PASSES: usize = 6_144;
 
-/// How many instructions are looked at for a use of D.
+/// The number of instructions in which a use of D is looked for.
 const MOST_LOOKED: usize = 64;
 
-/// The facts that the line of an address may not say, since a line that leads there doesn't show them.
+/// The facts that the line of an address may not say, since a line that leads there doesn't show
+/// them.
 #[derive(Clone, Copy)]
 struct Barred {
     copy: bool,
@@ -50,78 +45,52 @@ pub struct Forward<'a> {
     known: Vec<Option<Knowledge>>,
     barred: Vec<Barred>,
     // the addresses to be followed, with what is known now
-    waiting: ArrayVec<u16, MOST_TURNS>,
+    waiting: ArrayVec<u16, MOST_VISITS>,
 }
 
-/// The place in the ROM of an address, where it has one.
-pub fn place_of(address: u32) -> Option<usize>
-    ensures { MatchOption result (((0x8000 ≤ address) × (address < 0x8800)) → ⊥) (λ place. (0x8000 + place ≡ address) × (place < 2048)) }
-{
+/// Returns the place in the ROM of an address, if it has one.
+pub fn place_of(address: u32) -> Option<u16> {
     if (0x8000..0x8800).contains(&address) {
-        Some((address - 0x8000) as usize)
+        Some((address - 0x8000) as u16)
     } else {
         None
     }
 }
 
-/// The place in the ROM at the end of a way.
-pub fn end_of(way: Way) -> Option<u16>
-    ensures { IfSome result (λ place. place < 2048) }
-{
-    let Some(to) = way.to else {
-        return None;
-    };
-    match place_of(to) {
-        Some(place) => Some(place as u16),
-        None => None,
-    }
+/// Returns the address of a place in the ROM.
+pub fn address_of(place: u16) -> u16 {
+    0x8000 | place
 }
 
-// An instruction branches on D, or puts it into the counter register.
-fn asks_here(kind: Kind, named: bool) -> bool
-    ensures { result ≡ asks_here kind named }
-{
-    match kind {
+/// Returns the place in the ROM at the end of a way.
+pub fn end_of(way: Way) -> Option<u16> {
+    place_of(way.to?)
+}
+
+/// Whether an instruction assigns the low byte of the counter register.
+pub fn assigns_counter(k: u8, op: Op) -> bool {
+    op.n == k && matches!(op.kind, Kind::Inc | Kind::Dec | Kind::Lda | Kind::Plo)
+}
+
+// Whether an instruction branches on D, or puts it into the counter register.
+fn asks_here(k: u8, op: Op) -> bool {
+    match op.kind {
         Kind::Bz | Kind::Bnz | Kind::Lbz | Kind::Lbnz => true,
-        Kind::Plo => named,
+        Kind::Plo => op.n == k,
         _ => false,
     }
 }
 
-// It assigns D, or else the low byte of the counter register.
-fn ends_here(kind: Kind, named: bool) -> bool
-    ensures { result ≡ ends_here kind named }
-{
-    assigns_d(kind) || (assigns_low(kind) && named)
-}
-
-// The next address of the ROM, where there is only one.
-fn only_next(ways: Ways) -> Option<u16>
-    ensures { result ≡ only_next ways }
-{
+// The next place in the ROM, if there is only one.
+fn only_next(ways: Ways) -> Option<u16> {
     match ways.second {
         Some(_) => None,
-        None => in_rom(ways.first.to),
-    }
-}
-
-// An address, if it lies in the ROM.
-fn in_rom(to: Option<u32>) -> Option<u16>
-    ensures { result ≡ in_rom to }
-{
-    match to {
-        Some(to) if (0x8000..0x8800).contains(&to) => Some(to as u16),
-        _ => None,
+        None => end_of(ways.first),
     }
 }
 
 /// Follows the ways from the entry of a bound on.
-pub fn explore<'a>(alloc: Global, rom: &'a [u8], bound: Bound) -> Result<Forward<'a>, TimingFault>
-    ensures rom { IfOk result (λ forward. forward.rom.now ≡ rom.entry.now) }
-    ensures bound { IfOk result (λ forward. forward.bound ≡ bound) }
-    ensures true_of { IfOk result IsTrueOf }
-    ensures fault { IfErr result (IsTimingFault rom.entry.now bound) }
-{
+pub fn explore<'a>(alloc: Global, rom: &'a [u8], bound: Bound) -> Result<Forward<'a>, TimingFault> {
     let free = Barred {
         copy: false,
         some: false,
@@ -130,159 +99,87 @@ pub fn explore<'a>(alloc: Global, rom: &'a [u8], bound: Bound) -> Result<Forward
     let mut forward = Forward {
         rom,
         bound,
-        known: Vec::new(alloc),
+        known: vec![in alloc; None; ROM_SIZE]?,
         barred: vec![in alloc; free; ROM_SIZE]?,
         waiting: ArrayVec::new(),
     };
-    // an entry outside the ROM is met nowhere
+    // an entry outside the ROM has no place
     forward.follow_with(bound.entry, &Knowledge::nothing())?;
-    forward.settle(alloc)?;
+    forward.follow_all()?;
+    for _ in 0..MOST_PASSES {
+        if !forward.bar_all() {
+            break;
+        }
+    }
     Ok(forward)
 }
 
 impl Forward<'_> {
-    // Follows the ways until each line's fact is shown by all lines that lead to it.
-    fn settle(&mut self, alloc: Global) -> Result<(), TimingFault>
-        requires { IsTrueOf self.now }
-        ensures stays { OnOk result (StaysTrue self.old self.new) }
-        ensures fault { IfErr result (IsTimingFault self.old.rom.now self.old.bound) }
-    {
-        self.pass(alloc)?;
-        for _ in 0..MOST_PASSES {
-            if !self.bar_all() {
+    // Meets the entry, and all that it leads to.
+    fn follow_all(&mut self) -> Result<(), TimingFault> {
+        self.meet(u32::from(self.bound.entry), Knowledge::nothing());
+        for _ in 0..MOST_VISITS {
+            let Some(address) = self.waiting.pop() else {
                 break;
+            };
+            if let Some(known) = self.known_at(u32::from(address)) {
+                self.follow_with(address, &known)?;
             }
         }
         Ok(())
     }
 
-    // Meets the entry, and all that it leads to, anew.
-    fn pass(&mut self, alloc: Global) -> Result<(), TimingFault>
-        requires { IsTrueOf self.now }
-        ensures stays { OnOk result (StaysTrue self.old self.new) }
-        ensures fault { IfErr result (IsTimingFault self.old.rom.now self.old.bound) }
-    {
-        self.known = vec![in alloc; None; ROM_SIZE]?;
-        self.waiting.clear();
-        self.meet(u32::from(self.bound.entry), Knowledge::nothing());
-        for _ in 0..MOST_TURNS {
-            let Some(address) = self.waiting.pop() else {
-                break;
-            };
-            self.follow(address)?;
-        }
-        Ok(())
-    }
-
-    /// What is known at an address that was met.
-    pub fn known_at(&self, address: u32) -> Option<Knowledge>
-        requires { IsTrueOf self.now }
-        ensures { IfSome result (IsKnown self.now.rom.now self.now.bound address) }
-    {
-        let Some(place) = place_of(address) else {
-            return None;
-        };
-        match self.known.get(place) {
+    /// Returns what is known at an address that was met.
+    pub fn known_at(&self, address: u32) -> Option<Knowledge> {
+        match self.known.get(usize::from(place_of(address)?)) {
             Some(known) => *known,
             None => None,
         }
     }
 
-    // Meets what is behind an address.
-    fn follow(&mut self, address: u16) -> Result<(), TimingFault>
-        requires { IsTrueOf self.now }
-        ensures stays { OnOk result (StaysTrue self.old self.new) }
-        ensures fault { IfErr result (IsTimingFault self.old.rom.now self.old.bound) }
-    {
-        match self.known_at(u32::from(address)) {
-            Some(known) => self.follow_with(address, &known),
-            None => Ok(()),
-        }
-    }
-
-    // Meets what is behind an address where this is known.
-    fn follow_with(&mut self, address: u16, known: &Knowledge) -> Result<(), TimingFault>
-        requires true_of { IsTrueOf self.now }
-        requires known { IsKnown self.now.rom.now self.now.bound address known.now }
-        ensures stays { OnOk result (StaysTrue self.old self.new) }
-        ensures fault { IfErr result (IsTimingFault self.old.rom.now self.old.bound) }
-    {
+    // Meets what comes after an address at which this is known.
+    fn follow_with(&mut self, address: u16, known: &Knowledge) -> Result<(), TimingFault> {
         let line = self.line_with(address, known);
         let instruction = instruction_at(self.rom, address);
         if !is_allowed(&self.bound, &line, &instruction) {
             return Err(obstacle(self.rom, TimingCause::Opcode, address));
         }
         let ways = ways_from(&self.bound, address, &instruction);
-        self.go(address, known, &instruction, ways.first);
+        self.go(known, &instruction, ways.first);
         if let Some(second) = ways.second {
-            self.go(address, known, &instruction, second);
+            self.go(known, &instruction, second);
         }
         Ok(())
     }
 
-    // Goes a way from an address to one of the ROM, where what is known of D opens it.
-    fn go(&mut self, address: u16, known: &Knowledge, instruction: &Instruction, way: Way)
-        requires true_of { IsTrueOf self.now }
-        requires known { IsKnown self.now.rom.now self.now.bound address known.now }
-        requires allowed { (x : Option ℕ) → fits_x known.now.x x ≡ true → MayBeAllowed self.now.rom.now self.now.bound address x }
-        requires instruction { instruction.now ≡ instruction_at self.now.rom.now address }
-        requires way { IsOneOf self.now.rom.now self.now.bound address way }
-        ensures { StaysTrue self.old self.new }
-    {
-        let Some(to) = way.to else {
+    // Goes a way to an address of the ROM, if what is known of D opens it.
+    fn go(&mut self, known: &Knowledge, instruction: &Instruction, way: Way) {
+        if let Some(to) = way.to
+            && is_open(way.when, known.byte)
+        {
+            self.meet(to, known.behind(self.bound.k, instruction, way.when));
+        }
+    }
+
+    // Meets an address at which this is known, if it lies in the ROM.
+    fn meet(&mut self, address: u32, known: Knowledge) {
+        let Some(place) = place_of(address) else {
             return;
         };
-        if is_open(way.when, known.byte) && place_of(to).is_some() {
-            let behind = known.behind(self.bound.k, instruction, way.when);
-            self.meet(to, behind);
+        let joined = match self.known_at(address) {
+            Some(before) => before.join(&known),
+            None => known,
+        };
+        if let Some(slot) = self.known.get_mut(usize::from(place))
+            && *slot != Some(joined)
+        {
+            *slot = Some(joined);
+            let _ = self.waiting.try_push(address_of(place));
         }
     }
 
-    // Meets an address where this is known, if it lies in the ROM.
-    fn meet(&mut self, address: u32, known: Knowledge)
-        requires true_of { IsTrueOf self.now }
-        requires known { IsKnown self.now.rom.now self.now.bound address known }
-        ensures { StaysTrue self.old self.new }
-    {
-        match self.known_at(address) {
-            Some(before) => {
-                let joined = before.join(&known);
-                if joined != before {
-                    self.set(address, joined);
-                }
-            }
-            None => self.set(address, known),
-        }
-    }
-
-    // What is known at an address of the ROM is this now, and it is to be followed.
-    fn set(&mut self, address: u32, known: Knowledge)
-        requires true_of { IsTrueOf self.now }
-        requires known { IsKnown self.now.rom.now self.now.bound address known }
-        ensures { StaysTrue self.old self.new }
-    {
-        if let Some(place) = place_of(address) {
-            self.put(place, known);
-            let _ = self.waiting.try_push(0x8000 + place as u16);
-        }
-    }
-
-    // What is known at a place is this now.
-    fn put(&mut self, place: usize, known: Knowledge)
-        requires true_of { IsTrueOf self.now }
-        requires known { IsKnown self.now.rom.now self.now.bound (0x8000 + place) known }
-        ensures { StaysTrue self.old self.new }
-    {
-        if place < self.known.len() {
-            self.known[place] = Some(known);
-        }
-    }
-
-    /// The line of an address, which doesn't say yet what is left.
-    pub fn line_with(&self, address: u16, known: &Knowledge) -> Line
-        ensures address { result.address ≡ address }
-        ensures x { result.x ≡ known.now.x }
-    {
+    // The line of an address, which doesn't say yet what is left.
+    fn line_with(&self, address: u16, known: &Knowledge) -> Line {
         Line {
             address,
             x: known.x,
@@ -292,7 +189,8 @@ impl Forward<'_> {
         }
     }
 
-    // The fact that the line of an address says, of those that hold and aren't barred: what D is counts where D is asked for soon.
+    // The fact that the line of an address says, of those that hold and aren't barred. What D is
+    // counts if D is asked for soon.
     fn choose(&self, address: u16, known: &Knowledge) -> Fact {
         let Some(barred) = self.barred_at(address) else {
             return Fact::Any;
@@ -307,39 +205,32 @@ impl Forward<'_> {
     }
 
     fn barred_at(&self, address: u16) -> Option<Barred> {
-        match place_of(u32::from(address)) {
-            Some(place) => self.barred.get(place).copied(),
-            None => None,
-        }
+        let place = place_of(u32::from(address))?;
+        self.barred.get(usize::from(place)).copied()
     }
 
     /// Whether D is asked for from an address on, before it is assigned.
-    pub fn asks_d(&self, address: u16) -> bool
-        ensures { result ≡ asks_d self.now.rom.now self.now.bound address }
-    {
+    pub fn asks_d(&self, address: u16) -> bool {
+        let k = self.bound.k;
         let mut at = address;
         for _ in 0..MOST_LOOKED {
             let instruction = instruction_at(self.rom, at);
-            let named = instruction.op.n == self.bound.k;
-            if asks_here(instruction.op.kind, named) {
+            if asks_here(k, instruction.op) {
                 return true;
             }
-            if ends_here(instruction.op.kind, named) {
+            if assigns_d(instruction.op.kind) || assigns_counter(k, instruction.op) {
                 return false;
             }
             match only_next(ways_from(&self.bound, at, &instruction)) {
-                Some(next) => at = next,
+                Some(next) => at = address_of(next),
                 None => return false,
             }
         }
         false
     }
 
-    // Bars each fact of a line that a line which leads there doesn't show. False where there is none.
-    fn bar_all(&mut self) -> bool
-        requires { IsTrueOf self.now }
-        ensures { StaysTrue self.old self.new }
-    {
+    // Bars each fact of a line that a line which leads there doesn't show. False if there is none.
+    fn bar_all(&mut self) -> bool {
         let mut found = false;
         for address in 0x8000..0x8800u16 {
             if self.bar_behind(address) {
@@ -349,11 +240,9 @@ impl Forward<'_> {
         found
     }
 
-    // Bars the facts of the lines behind an address that its line doesn't show. False where there is none.
-    fn bar_behind(&mut self, address: u16) -> bool
-        requires { IsTrueOf self.now }
-        ensures { StaysTrue self.old self.new }
-    {
+    // Bars the facts of the lines after an address that its line doesn't show. False if there is
+    // none.
+    fn bar_behind(&mut self, address: u16) -> bool {
         let Some(known) = self.known_at(u32::from(address)) else {
             return false;
         };
@@ -371,35 +260,32 @@ impl Forward<'_> {
         }
     }
 
-    // The fact of the line at the end of a way, with its place, where the way doesn't show it. Where the line says what D is and could say that the
-    // counter isn't 0, which is asked for, it is its own fact instead.
+    // The fact of the line at the end of a way, with its place, if the way doesn't show it. If the
+    // line says what D is and could say that the counter isn't 0, which is asked for, it is its
+    // own fact instead.
     fn unshown(
         &self,
         known: &Knowledge,
         line: &Line,
         instruction: &Instruction,
         way: Way,
-    ) -> Option<(usize, Fact)>
-        requires { IsTrueOf self.now }
-    {
+    ) -> Option<(u16, Fact)> {
         let k = self.bound.k;
-        let Some((place, asked)) = self.asked_at(way) else {
-            return None;
-        };
+        let place = end_of(way)?;
+        let asked = self.choose(address_of(place), &self.known_at(way.to?)?);
         if !lets_through(line.fact, way.when)
             || is_shown(k, instruction, line.fact, way.when, 0, asked)
         {
             return None;
         }
-        match place_of(u32::from(line.address)) {
-            Some(own)
-                if matches!(asked, Fact::NonZero)
-                    && self.may_say_some(known, line)
-                    && is_shown(k, instruction, Fact::NonZero, way.when, 0, asked) => {
-                Some((own, line.fact))
-            }
-            _ => Some((place, asked)),
+        let own = place_of(u32::from(line.address))?;
+        if matches!(asked, Fact::NonZero)
+            && self.may_say_some(known, line)
+            && is_shown(k, instruction, Fact::NonZero, way.when, 0, asked)
+        {
+            return Some((own, line.fact));
         }
+        Some((place, asked))
     }
 
     // Whether a line that says what D is could say that the counter isn't 0.
@@ -410,30 +296,12 @@ impl Forward<'_> {
         }
     }
 
-    // The place at the end of a way that was met, and the fact that its line says.
-    fn asked_at(&self, way: Way) -> Option<(usize, Fact)>
-        requires { IsTrueOf self.now }
-    {
-        let Some(to) = way.to else {
-            return None;
-        };
-        match (place_of(to), self.known_at(to)) {
-            (Some(place), Some(known)) => {
-                Some((place, self.choose(0x8000 + place as u16, &known)))
-            }
-            _ => None,
-        }
-    }
-
-    // Bars a fact at a place. False where there is none.
-    fn bar(&mut self, found: Option<(usize, Fact)>) -> bool
-        requires { IsTrueOf self.now }
-        ensures { StaysTrue self.old self.new }
-    {
+    // Bars a fact at a place. False if there is none.
+    fn bar(&mut self, found: Option<(u16, Fact)>) -> bool {
         let Some((place, fact)) = found else {
             return false;
         };
-        if let Some(barred) = self.barred.get_mut(place) {
+        if let Some(barred) = self.barred.get_mut(usize::from(place)) {
             match fact {
                 Fact::Any => {}
                 Fact::Copy => barred.copy = true,
@@ -444,26 +312,43 @@ impl Forward<'_> {
         true
     }
 
-    /// The fact that the line of an address says, where it was met, and else that nothing is known.
-    pub fn fact_at(&self, address: u16) -> Fact
-        requires { IsTrueOf self.now }
-    {
+    /// Returns the fact that the line of an address says, if it was met, and else that nothing is
+    /// known.
+    pub fn fact_at(&self, address: u16) -> Fact {
         match self.known_at(u32::from(address)) {
             Some(known) => self.choose(address, &known),
             None => Fact::Any,
         }
     }
 
-    /// Whether an address was met, and a fact is lost there.
-    pub fn is_lost(&self, address: u16, fact: Fact) -> bool
-        requires { IsTrueOf self.now }
-        ensures { result ≡ true → IsLost self.now.rom.now self.now.bound address fact }
-    {
-        match (self.known_at(u32::from(address)), fact) {
-            (Some(known), Fact::Copy) => !known.copy,
-            (Some(known), Fact::NonZero) => !known.some,
-            (Some(known), Fact::Is(byte)) => known.byte != Some(byte),
-            (Some(_), Fact::Any) | (None, _) => false,
+    // Whether the instruction at an address may raise the counter, for all that is known there.
+    fn may_raise(&self, address: u16) -> bool {
+        let op = instruction_at(self.rom, address).op;
+        let Some(known) = self.known_at(u32::from(address)) else {
+            return false;
+        };
+        let keeps = match (op.kind, known.byte) {
+            (Kind::Dec, _) => known.some,
+            (Kind::Plo, Some(0)) => true,
+            (Kind::Plo, Some(1)) => known.some || known.copy,
+            (Kind::Plo, _) => known.copy,
+            _ => false,
+        };
+        assigns_counter(self.bound.k, op) && !keeps
+    }
+
+    /// Whether an iteration of a loop isn't counted, whichever facts its lines say: no instruction
+    /// of it assigns the counter, or one may raise it.
+    pub fn is_uncounted(&self, turn: &[u16]) -> bool {
+        let mut keeps = true;
+        for address in turn {
+            if self.may_raise(*address) {
+                return true;
+            }
+            if assigns_counter(self.bound.k, instruction_at(self.rom, *address).op) {
+                keeps = false;
+            }
         }
+        keeps
     }
 }

@@ -1,15 +1,16 @@
-//! The lines of a routine as a graph: which lines lead to which, and which of them take one from the counter.
+//! The lines of a routine as a graph: which lines lead to which, and which of them take one from
+//! the counter.
 
 use crate::closed::{Instruction, instruction_at, lets_through, ways_from};
 use crate::drawn::drawn_at;
 use crate::forward::{ROM_SIZE, end_of};
-use crate::grammar::{Bound, Line};
+use crate::grammar::{Bound, Fact, Line};
 use crate::table::{Way, Ways};
-use crate::turn::{raises_counter, takes_counter};
 use arrayvec::ArrayVec;
 use std::alloc::{AllocError, Global};
+use vip_isa::Kind;
 
-/// How many places the ROM has.
+/// The number of places in the ROM.
 pub const PLACES: u16 = 2_048;
 
 /// A line, its instruction and its ways.
@@ -20,7 +21,7 @@ pub struct Node {
     pub ways: Ways,
     /// Whether the instruction takes one from the counter, which isn't 0 there.
     pub takes: bool,
-    /// How much more the counter may be behind it.
+    /// How much more the counter may be after it.
     pub raises: u8,
 }
 
@@ -32,7 +33,7 @@ pub struct Graph {
     pub nodes: Vec<Option<Node>>,
 }
 
-/// The graph of the lines of a routine by their place in the ROM.
+/// Returns the graph of the lines of a routine by their place in the ROM.
 pub fn graph_of(
     alloc: Global,
     rom: &[u8],
@@ -52,12 +53,26 @@ pub fn graph_of(
 
 fn node_of(rom: &[u8], bound: &Bound, line: &Line) -> Node {
     let instruction = instruction_at(rom, line.address);
+    let named = instruction.op.n == bound.k;
+    let kind = instruction.op.kind;
     Node {
         line: *line,
         instruction,
         ways: ways_from(bound, line.address, &instruction),
-        takes: takes_counter(bound, line, &instruction),
-        raises: raises_counter(bound, line, &instruction),
+        takes: named && matches!((kind, line.fact), (Kind::Dec, Fact::NonZero)),
+        raises: if named { raised_by(kind, line.fact) } else { 0 },
+    }
+}
+
+// How much more the counter may be after an instruction that names it, if a fact holds.
+fn raised_by(kind: Kind, fact: Fact) -> u8 {
+    match (kind, fact) {
+        (Kind::Inc | Kind::Lda, _) => 1,
+        (Kind::Plo, Fact::Is(byte)) => byte,
+        (Kind::Plo, Fact::NonZero) => 254,
+        (Kind::Plo, Fact::Copy) | (Kind::Dec, Fact::NonZero) => 0,
+        (Kind::Plo | Kind::Dec, _) => 255,
+        _ => 0,
     }
 }
 
@@ -73,7 +88,7 @@ impl Node {
 }
 
 impl Graph {
-    /// The node at a place.
+    /// Returns the node at a place.
     pub fn node(&self, place: u16) -> Option<Node> {
         match self.nodes.get(usize::from(place)) {
             Some(node) => *node,
@@ -81,7 +96,7 @@ impl Graph {
         }
     }
 
-    /// The node at the end of a way.
+    /// Returns the node at the end of a way.
     pub fn node_behind(&self, way: Way) -> Option<Node> {
         match end_of(way) {
             Some(place) => self.node(place),
@@ -89,8 +104,8 @@ impl Graph {
         }
     }
 
-    /// The places to which one leads by all ways, or only where it doesn't take from the counter.
-    pub fn targets(&self, place: u16, counts: bool) -> [Option<u16>; 2] {
+    // The places to which one leads by all ways, or only if it doesn't take from the counter.
+    fn targets(&self, place: u16, counts: bool) -> [Option<u16>; 2] {
         match self.node(place) {
             Some(node) if counts || !node.takes => {
                 let second = match node.ways.second {
@@ -103,8 +118,9 @@ impl Graph {
         }
     }
 
-    /// For each place from which one it was met first on the ways from a start on, by one step or more; by all ways, or only by those of lines that
-    /// don't take from the counter. Nothing where no line starts.
+    /// Returns for each place from which one it was met first on the ways from a start on, by one
+    /// step or more; by all ways, or only by those of lines that don't take from the counter.
+    /// Nothing if no line starts.
     pub fn sources(
         &self,
         alloc: Global,

@@ -2,7 +2,7 @@
 //!
 //! A certificate is a text that says for each address of a routine how many cycles are left there at most, by the value of a counter
 //! register, and what is known of X and D. `check_cycles` checks each of its lines against the instruction at its address and the lines
-//! behind that; it runs nothing. The format and the rules are this project's profile (`docs/SOURCES.md`), the instructions those of RCA's
+//! behind that; it runs nothing. The format and the rules are this project's profile (`docs/CERTIFICATES.md`), the instructions those of RCA's
 //! data sheet of the CDP1802.
 //!
 //! The crate stands on the definitions of `machine`, on `vip_isa`, on `vip_byte` and on the kit's `arrayvec` and `thiserror`. The layers above may
@@ -18,7 +18,6 @@ ghost use Rattle.cycle_check.specs.Exits.{exits_in};
 ghost use Rattle.cycle_check.specs.Leaving.{IsWithin};
 ghost use Rattle.cycle_check.specs.Reading.{IsRead};
 
-mod alone;
 mod certificate;
 mod closed;
 mod components;
@@ -32,14 +31,7 @@ mod grammar;
 mod graph;
 mod known;
 pub mod laws;
-mod least;
-mod pace;
-mod ranks;
-mod reach;
-mod said;
-mod short;
 mod table;
-mod turn;
 mod write;
 
 use crate::certificate::{Draft, read_certificate, statement_number};
@@ -114,6 +106,7 @@ fn accept(alloc: Global, rom: &[u8; 2048], text: &[u8]) -> Result<(Within, Bound
     ensures fault { IfErr result
         (λ fault. (fault ≡ CertFault.NoMemory) ⊎ (checked rom.now text.now ≡ Err fault)) }
     ensures within { IfOk result (λ got. IsWithin rom.now text.now got.0) }
+    ensures same { IfOk result (λ got. got.0 ≡ record { entry = got.1.entry; limit = got.1.limit }) }
 {
     let certificate = read_certificate(alloc, text)?;
     let Some(bound) = certificate.bound() else {

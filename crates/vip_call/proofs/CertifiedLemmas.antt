@@ -112,10 +112,10 @@ module _ (routines : AcceptedIsWithin) (games : CertifiedGames) (law : EveryRun)
         address = at.value;
         entered = at.gives;
         found = found.gives.0;
-        accepted = shown_routine source found.value _ found.gives.0.certificate.accepted;
+        accepted = shown_routine source found.value _ found.gives.0.accepted;
         leaves =
-            routines _ (timing_shown source found.value) (record { entry = at.value; limit = found.gives.0.certificate.bound.limit }) comes.value.fits
-            (shown_routine source found.value _ found.gives.0.certificate.accepted);
+            routines _ (timing_shown source found.value) (record { entry = at.value; limit = found.gives.0.bound.limit }) comes.value.fits
+            (shown_routine source found.value _ found.gives.0.accepted);
       }
   shows (request.Safe code certificate edition) output given comes =
       let game = game_fits edition code given.0 comes.value comes.gives in

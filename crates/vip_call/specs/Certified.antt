@@ -41,8 +41,8 @@ pub record WritesTiming (source : List ℕ) (entry : Entry) (p k : ℕ) (pieces 
   pub address : ℕ
   pub entered : entry_in made.made entry ≡ Some address
   pub found : IsFound (rom_in source) address p k text
-  pub accepted : checked (rom_in source) (timing_shown source text) ≡ Ok (record { entry = address; limit = found.certificate.bound.limit })
-  pub leaves : IsWithin (rom_in source) (timing_shown source text) (record { entry = address; limit = found.certificate.bound.limit })
+  pub accepted : checked (rom_in source) (timing_shown source text) ≡ Ok (record { entry = address; limit = found.bound.limit })
+  pub leaves : IsWithin (rom_in source) (timing_shown source text) (record { entry = address; limit = found.bound.limit })
 
 -- none of these events is a stop
 abbrev pub NoneStops : List Event → Type 0

@@ -4,7 +4,7 @@
 //! the words, the files, the verbs and the reports (`vip_words`, `vip_tools`, `vip_verbs`), which it calls, and on the laws of the runs of games in
 //! `rom_board`, all through their contracts alone; files and sinks are those of its caller. The program above may rely on the contract of either: what goes to
 //! `out` and `err` for every answer, byte by byte and put by put, which files were read, when each answer is due, and what that says of CHIP-8. Reports and
-//! statuses are this project's (`docs/COMMANDS.md`); a picture is a file of Netpbm's PBM, form P4.
+//! statuses are this project's (`docs/STATUSES.md`); a picture is a file of Netpbm's PBM, form P4.
 //!
 //! ```text
 //!               ┌─ open ────────────────────────────────────────┐   ┌─ finish ────────┐

@@ -101,7 +101,7 @@ abbrev pub timing_refusal : TimingFault → Refusal
 timing_refusal (NotFound obstacle) = NoTiming (Ended_at obstacle)
 timing_refusal timing.NoMemory = NoMemory
 
--- some certificate of a routine, which is small enough for `cycles`; or where the search for one ended, which is true of the ROM
+-- Some certificate of a routine, which is small enough for `cycles`; or where the search for one gave up. What `Opcode` says there is true of the ROM.
 abbrev pub RoutineFound : List ℕ → ℕ → ℕ → ℕ → Judged (List ℕ)
 RoutineFound rom address p k =
     judged (λ text. IsFound rom address p k text × (length text ≤ most_text)) (IsTimingFault rom (record { entry = address; p = p; k = k; limit = 0 })) timing_refusal
@@ -110,8 +110,8 @@ RoutineFound rom address p k =
 abbrev pub timing_shown : List ℕ → List ℕ → List ℕ
 timing_shown source text = routine_shown (rom_in source) (origins_of Cdp1802 (source_lines source)) text
 
--- The first fault of the source; that the entry's name has no number; some certificate; or what is true of the ROM where none is found. For which routines one is
--- found nothing is said, nor which of several causes is named.
+-- The first fault of the source; that the entry's name has no number; some certificate; or where the search gave up. For which routines a certificate is found
+-- nothing is said, nor which of several causes is named.
 abbrev pub TimingComes : List ℕ → Entry → ℕ → ℕ → Judged Output
 TimingComes source entry p k =
     bind (SourceRom source) (λ made. bind (EntryComes made.made entry) (λ address. bind (RoutineFound (rom_in source) address p k)

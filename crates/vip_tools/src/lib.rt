@@ -11,7 +11,7 @@
 //! files; and each refusal and each end has the status and the report of `specs/Status.antt`, `specs/Refusal.antt` and `specs/Report.antt`, and a
 //! report goes to a sink by one put. Of a refusal by `open` the line is made first, which takes memory; where there is none, it is want of memory
 //! that is reported. The end of a command takes none, nor does why it comes to no end. The demonstration games, the statuses and the reports are this
-//! project's (`docs/COMMANDS.md`).
+//! project's (`docs/STATUSES.md`).
 #![tactic(auto)]
 
 mod certificates;
