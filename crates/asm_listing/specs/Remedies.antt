@@ -157,12 +157,12 @@ is_octo isa cause line text =
 
 -- a label without its colon
 abbrev pub label_text : List ℕ → Option ℕ → Option (List ℕ)
-label_text word place = option_map (λ place. codes "a label is " ++ (word ++ codes ":")) place
+label_text word place = option_map (λ place. codes "write a label as " ++ (word ++ codes ":")) place
 
 -- a byte that isn't ASCII
 abbrev pub not_ascii : List ℕ → Option (List ℕ)
 not_ascii [] = None
-not_ascii (byte ∷ rest) = if nat_lt 127 byte then Some (codes "a line holds ASCII alone") else None
+not_ascii (byte ∷ rest) = if nat_lt 127 byte then Some (codes "a line can contain only ASCII") else None
 
 -- of a culprit that is no habit
 abbrev pub other_remedy : Isa → AsmCause → List ℕ → List ℕ → Option (List ℕ)
@@ -173,7 +173,7 @@ other_remedy isa _ line text = None
 -- a name that stands for the number of a register, where a register is due
 abbrev pub register_text : Option ℕ → Option (List ℕ)
 register_text None = None
-register_text (Some number) = if nat_lt number 16 then Some (codes "registers have no names here: R" ++ last_of (hex2 number)) else None
+register_text (Some number) = if nat_lt number 16 then Some (codes "registers have no names: use R" ++ last_of (hex2 number)) else None
 
 abbrev pub register_named : Isa → Names → List ℕ → List ℕ → Option (List ℕ)
 register_named Cdp1802 given word text = if is_one_of registers word then register_text (number_named given text) else None
@@ -181,7 +181,7 @@ register_named Chip8 given word text = None
 
 -- a name that isn't given, but is so in capitals or in small letters
 abbrev pub if_given : Names → List ℕ → Option (List ℕ)
-if_given given text = if is_some (given text) then Some (text ++ codes ", as it is written there") else None
+if_given given text = if is_some (given text) then Some (text ++ codes ", as it is defined") else None
 
 abbrev pub as_written : Names → List ℕ → Option (List ℕ)
 as_written given text =

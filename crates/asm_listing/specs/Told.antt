@@ -81,12 +81,12 @@ operands_text isa given fixed name number line told =
 abbrev pub note_text : List ℕ → ℕ → List ℕ → Place → List ℕ
 note_text name number line place =
     line_text name number (start_at line place + 1) (codes "note") (bytes_at line place)
-    (Some (codes "a comment: an instruction stands on a line of its own"))
+    (Some (codes "a comment: an instruction needs a line of its own"))
 
 -- the note on a comment that is no line of its own
 abbrev pub note_line : List ℕ → ℕ → ℕ → List ℕ → List ℕ
 note_line name number column words =
-    line_text name number column (codes "note") words (Some (codes "a comment: an instruction stands on a line of its own"))
+    line_text name number column (codes "note") words (Some (codes "a comment: an instruction needs a line of its own"))
 
 -- the note of what stands behind the byte at a place of a line, where that is a `;`
 abbrev pub note_behind : Isa → List ℕ → ℕ → ℕ → List ℕ → List ℕ
@@ -140,7 +140,7 @@ octo_count isa source count = count_by (λ i. is_octo_told isa (line_at source i
 -- behind the last line, where ten or more are Octo's
 abbrev pub octo_text : List ℕ → ℕ → List ℕ
 octo_text name count =
-    if nat_le 10 count then name ++ (codes ": this looks like Octo: see docs/FIRST_CHIP8.md, From Octo" ++ newline) else []
+    if nat_le 10 count then name ++ (codes ": this looks like Octo: see docs/FIRST_GAME.md" ++ newline) else []
 
 -- a fault is told of some line, of the first ones and of all
 abbrev pub has_told_before : Isa → List (List ℕ) → ℕ → Bool
@@ -180,12 +180,14 @@ waiting_count isa source count =
     (range_with_len 0 count)
 
 -- the last line, where pass 2 didn't run and lines wait for it
-abbrev pub lines_more : ℕ → List ℕ
-lines_more count = decimal count ++ (if count == 1 then codes " line more is" else codes " lines more are")
+abbrev pub more_lines : ℕ → List ℕ
+more_lines count =
+    if count == 1 then codes " more line is checked after these errors are fixed"
+    else codes " more lines are checked after these errors are fixed"
 
 abbrev pub waiting_text : List ℕ → ℕ → List ℕ
 waiting_text name count =
-    if count == 0 then [] else name ++ (codes ": " ++ (lines_more count ++ (codes " looked at when these are mended" ++ newline)))
+    if count == 0 then [] else name ++ (codes ": " ++ (decimal count ++ (more_lines count ++ newline)))
 
 abbrev pub waiting_line : Isa → Bool → List ℕ → List (List ℕ) → List ℕ
 waiting_line isa faulty name source = if faulty then waiting_text name (waiting_count isa source (length source)) else []

@@ -174,7 +174,7 @@ fn append_note_line(
 ) -> Result<(), AllocError>
     ensures { OnOk result (text.new.items ≡ text.old.items ++ note_line name.now number column words.now) }
 {
-    let remark = "a comment: an instruction stands on a line of its own";
+    let remark = "a comment: an instruction needs a line of its own";
     let remark = Some(remark.as_bytes());
     append_line(alloc, text, name, number, column, "note", words, remark)
 }

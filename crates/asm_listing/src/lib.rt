@@ -3,7 +3,7 @@
 //! `specs/Listing.antt`, `dump_text` in `specs/Dump.antt`, `IsRaw` in `specs/Raw.antt`, `disassembly` in `specs/Disassembly.antt`, and `report_of`
 //! in `specs/Told.antt`, every fault of a source; and on the way back: assembling what `disassemble` gives has no fault, and gives the same bytes at
 //! the same addresses and no others (`AssemblesTo` in `specs/WayBack.antt`). A call that takes memory answers an error where memory is refused, and
-//! otherwise its text. The mnemonics are those of RCA's data sheet of the CDP1802; the texts are this project's profile (`docs/SOURCES.md`).
+//! otherwise its text. The mnemonics are those of RCA's data sheet of the CDP1802; the texts are this project's profile (`docs/ASSEMBLER.md`).
 #![tactic(auto)]
 
 mod comments;

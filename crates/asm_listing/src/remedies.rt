@@ -425,7 +425,7 @@ fn label_remedy(alloc: Global, isa: Isa, line: &[u8], word: &[u8]) -> Remedy
         return Ok(None);
     }
     let label = join(alloc, word, b":")?;
-    Ok(Some(join(alloc, b"a label is ", label.as_slice())?))
+    Ok(Some(join(alloc, b"write a label as ", label.as_slice())?))
 }
 
 fn ascii_remedy(alloc: Global, text: &[u8]) -> Remedy
@@ -433,7 +433,7 @@ fn ascii_remedy(alloc: Global, text: &[u8]) -> Remedy
 {
     match text {
         [byte, ..] if *byte > 127 => {
-            Ok(Some(Vec::from_slice(alloc, b"a line holds ASCII alone")?))
+            Ok(Some(Vec::from_slice(alloc, b"a line can contain only ASCII")?))
         }
         _ => Ok(None),
     }
@@ -456,7 +456,7 @@ fn register_text(alloc: Global, number: Option<u16>) -> Remedy
     match number {
         Some(number) if number < 16 => {
             let digits = hex2(number as u8);
-            let text = join(alloc, b"registers have no names here: R", last_of(&digits))?;
+            let text = join(alloc, b"registers have no names: use R", last_of(&digits))?;
             Ok(Some(text))
         }
         _ => Ok(None),
@@ -479,7 +479,7 @@ fn if_given(alloc: Global, given: &Symbols, text: &[u8]) -> Remedy
     if given.get(text).is_none() {
         return Ok(None);
     }
-    Ok(Some(join(alloc, text, b", as it is written there")?))
+    Ok(Some(join(alloc, text, b", as it is defined")?))
 }
 
 // A name that isn't given, but is so in capitals or in small letters.

@@ -156,7 +156,7 @@ fn append_note(
 {
     let column = start_at(line, place) + 1;
     let instruction = bytes_at(line, place);
-    let remark = "a comment: an instruction stands on a line of its own";
+    let remark = "a comment: an instruction needs a line of its own";
     let remark = Some(remark.as_bytes());
     append_line(
         alloc,
@@ -468,7 +468,7 @@ fn append_octo(text: &mut Vec<u8>, name: &[u8], count: u32) -> Result<(), AllocE
             text,
             &[
                 name,
-                b": this looks like Octo: see docs/FIRST_CHIP8.md, From Octo",
+                b": this looks like Octo: see docs/FIRST_GAME.md",
                 b"\n",
             ],
         )

@@ -158,22 +158,29 @@ fn append_count(text: &mut Vec<u8>, name: &[u8], count: u32) -> Result<(), Alloc
     }
     let mut digits = Digits::new();
     let digits = digits.format(count).as_bytes();
-    let more: &[u8] = if count == 1 {
-        b" line more is"
+    if count == 1 {
+        append_each(
+            text,
+            &[
+                name,
+                b": ",
+                digits,
+                b" more line is checked after these errors are fixed",
+                b"\n",
+            ],
+        )
     } else {
-        b" lines more are"
-    };
-    append_each(
-        text,
-        &[
-            name,
-            b": ",
-            digits,
-            more,
-            b" looked at when these are mended",
-            b"\n",
-        ],
-    )
+        append_each(
+            text,
+            &[
+                name,
+                b": ",
+                digits,
+                b" more lines are checked after these errors are fixed",
+                b"\n",
+            ],
+        )
+    }
 }
 
 /// Says how many lines wait for the next run, where pass 2 didn't run.

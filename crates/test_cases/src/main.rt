@@ -1,7 +1,7 @@
 //! Runs the cases of `data/cases.txt` through the program, `vip_main`, on files and sinks in memory.
 //!
 //! A case says with which words and files the program is run, which read or put fails, and the output, the report and the status that
-//! are due; the head of that file says how, and `docs/CONFORMANCE.md` with examples. For each group of cases one line says that all are
+//! are due; the head of that file says how, and `docs/HOW_TO_TEST_AN_EMULATOR.md` with examples. For each group of cases one line says that all are
 //! as they must be, and that they are as many as its head has. Of a case that isn't the first thing that was due and didn't come is
 //! written, and what came.
 //!

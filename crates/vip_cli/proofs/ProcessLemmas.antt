@@ -1,5 +1,5 @@
 -- What the process does, from what it makes of its command line.
-use Rattle.std.proofs.Common.{◌≡◌, ◌==◌, inl, inr, ℕ, List, [], ◌∷◌, Bool, true, false, length, map, refl, subst, Result, Ok, Err}
+use Rattle.std.proofs.Common.{◌≡◌, ◌==◌, inl, inr, ℕ, List, [], ◌∷◌, Bool, true, false, ◌&&◌, length, map, refl, subst, Result, Ok, Err}
 use Rattle.std.specs.Prelude.{Vec, String, string_bytes}
 use Rattle.std.specs.declared.alloc.Global.{Global}
 use Rattle.vip_outside.specs.Files.{FilesMeaning}
@@ -11,7 +11,7 @@ use Rattle.vip_tools.specs.declared.status.Status.{Status}
 use Rattle.vip_tools.specs.Reported.{RefusalAnswers}
 use Rattle.vip_tools.specs.Status.{status_number}
 use Rattle.vip_words.specs.Why.{remark}
-use Rattle.vip_cli.specs.Process.{CommandLine, Ends, LineAnswers, PutsBehind, RemarkAnswers, Runs, WordsAnswer}
+use Rattle.vip_cli.specs.Process.{CommandLine, Ends, LineAnswers, PutsBehind, RemarkAnswers, Runs, WordsAnswer, is_remarked}
 
 -- a line that isn't empty was put, whole or not
 put-behind :
@@ -22,8 +22,8 @@ put-behind (byte ∷ bytes) line err err' (Ok done) same some put = subst (λ li
 put-behind (byte ∷ bytes) line err err' (Err failed) same some put = subst (λ line. PutsBehind line err err') same (inl (inr put))
 
 pub remark-put :
-    (is_terminal : Bool) (words : List (List ℕ)) (text : List ℕ) (err err' : SinkMeaning) (r : Result (Unit {0}) Failed) → is_terminal ≡ true
-    → text ≡ remark words → (length text == 0) ≡ false → PutAnswers text err err' r → RemarkAnswers is_terminal words err err'
+    (shown : Bool) (words : List (List ℕ)) (text : List ℕ) (err err' : SinkMeaning) (r : Result (Unit {0}) Failed) → shown ≡ true
+    → text ≡ remark words → (length text == 0) ≡ false → PutAnswers text err err' r → RemarkAnswers shown words err err'
 remark-put false words text err err' r is same some put = absurd (cc)
 remark-put true words text err err' r is same some put = put-behind text (remark words) err err' r same some put
 
@@ -32,7 +32,7 @@ module _ (is_terminal : Bool) (files files' : FilesMeaning) (out out' err report
   pub runs :
       (line : CommandLine) (words : Vec (String Global) Global) (given : List (String Global)) (status : Status) (number : ℕ)
       → WordsAnswer line (Ok words) → given ≡ words.items → Runs (map string_bytes given) files files' out out' err reported status
-      → RemarkAnswers is_terminal (map string_bytes given) reported err'
+      → RemarkAnswers (is_terminal && is_remarked status) (map string_bytes given) reported err'
       → number ≡ status_number status → LineAnswers line is_terminal files files' out out' err err' number
   runs (Ok args) words given status number is same ran remarked ends =
       inl (subst (λ ws. Ends is_terminal (map string_bytes ws) files files' out out' err err' number) is

@@ -1,5 +1,5 @@
 -- What the process does with its command line, its system and its two streams.
-use Rattle.std.specs.Prelude.{◌≡◌, ◌⊎◌, ℕ, List, [], ◌∷◌, Bool, true, false, Result, Ok, Err, Vec, String, map, drop, string_bytes}
+use Rattle.std.specs.Prelude.{◌≡◌, ◌⊎◌, ℕ, List, [], ◌∷◌, Bool, true, false, ◌&&◌, Result, Ok, Err, Vec, String, map, drop, string_bytes}
 use Rattle.std.specs.Vec.Iter.{into_iter_items}
 use Rattle.std.specs.declared.vec.IntoIter.{IntoIter}
 use Rattle.std.specs.declared.io.Error.{Error}
@@ -13,7 +13,7 @@ use Rattle.vip_outside.specs.Sink.{SinkMeaning}
 use Rattle.vip_tools.specs.declared.refusal.Refusal.{Refusal}
 use Rattle.vip_tools.specs.declared.refusal.Refusal.TheVariants as refusal
 use Rattle.vip_tools.specs.declared.status.Status.{Status}
-use Rattle.vip_tools.specs.declared.status.Status.TheVariants.{Usage, NoMemory}
+use Rattle.vip_tools.specs.declared.status.Status.TheVariants.{Done, Stopped, Usage, NoMemory}
 use Rattle.vip_tools.specs.Report.{no_memory, usage}
 use Rattle.vip_tools.specs.Reported.{IsPut}
 use Rattle.vip_tools.specs.Status.{status_number}
@@ -52,18 +52,25 @@ abbrev pub PutsBehind : List ℕ → SinkMeaning → SinkMeaning → Type 0
 PutsBehind [] err err' = err' ≡ err
 PutsBehind (byte ∷ bytes) err err' = IsPut (byte ∷ bytes) err err' ⊎ (err' ≡ err)
 
--- on a terminal what is remarked on the words, and elsewhere nothing
+-- a remark follows the report if the words are rejected, or if something ran
+abbrev pub is_remarked : Status → Bool
+is_remarked Usage = true
+is_remarked Done = true
+is_remarked Stopped = true
+is_remarked _ = false
+
+-- what is remarked on the words, if it is shown, and else nothing
 abbrev pub RemarkAnswers : Bool → List (List ℕ) → SinkMeaning → SinkMeaning → Type 0
 RemarkAnswers false words err err' = err' ≡ err
 RemarkAnswers true words err err' = PutsBehind (remark words) err err'
 
 -- The program ran on the words, and the process ends with the number of its status. What goes to the report's stream is what the program puts there, and on a
--- terminal the remark behind it.
+-- terminal the remark after it.
 pub record Ends (is_terminal : Bool) (words : List (List ℕ)) (files files' : FilesMeaning) (out out' err err' : SinkMeaning) (number : ℕ) : Type 0 where
   pub status : Status
   pub reported : SinkMeaning
   pub runs : Runs words files files' out out' err reported status
-  pub remarked : RemarkAnswers is_terminal words reported err'
+  pub remarked : RemarkAnswers (is_terminal && is_remarked status) words reported err'
   pub ends : number ≡ status_number status
 
 -- what is done with a command line: the program runs on the words; or no memory is found for them; or there is no command line in UTF-8

@@ -1,15 +1,25 @@
-//! The program `vip`: on the words of its command line, the files of the file system, and its standard output and standard error it makes the call
-//! `vip_main` of `vip_call`, and ends with its status. It stands on that call, on the outside of `vip_outside`, on the statuses of `vip_tools` and on the
-//! remarks of `vip_words`.
-//! `process` is generic over the system and the two streams, and proved as such: the words are all those behind the program's name, what the system
-//! opened and what went to the streams is what the call promises, and where the reports are seen on a terminal what `vip_words` remarks on the words stands
-//! behind the report, and nowhere else; and the process ends with the number of its status. `main` is one call of it, with the real ones, of which no
-//! contract can speak, nor of which of them are terminals.
+//! The program `vip`.
+//!
+//! It makes the call `vip_main` of `vip_call` on the arguments of its command line, the files of the
+//! file system, standard output and standard error, and exits with the status of that call. The crate
+//! stands on that call, on the files and streams of `vip_outside`, on the statuses of `vip_tools` and
+//! on the remarks of `vip_words`.
+//!
+//! `process` is generic over the file system and the two streams, and proved as such:
+//!
+//! - The arguments are all those after the program's name.
+//! - What is opened and what goes to the streams is what the call promises.
+//! - The remark of `vip_words` on the arguments follows the report if the reports go to a terminal
+//!   and the arguments were rejected or something ran. Otherwise nothing follows it.
+//! - The process exits with the number of its status.
+//!
+//! `main` is one call of `process` with the real file system and streams. No contract can say what
+//! they contain, nor which of them are terminals.
 #![tactic(auto)]
 
-ghost use Rattle.std.specs.Prelude.{◌≡◌, IfOk, map, string_bytes};
+ghost use Rattle.std.specs.Prelude.{◌≡◌, ◌&&◌, IfOk, map, string_bytes};
 ghost use Rattle.std.specs.Process.{exit_status};
-ghost use Rattle.vip_cli.specs.Process.{ProcessAnswers, RemarkAnswers, WordsAnswer, words_behind};
+ghost use Rattle.vip_cli.specs.Process.{ProcessAnswers, RemarkAnswers, WordsAnswer, is_remarked, words_behind};
 
 use std::alloc::{AllocError, Global};
 use std::env;
@@ -17,7 +27,7 @@ use std::io::{self, ErrorKind, IsTerminal};
 use std::process::ExitCode;
 use vip_call::vip_main;
 use vip_outside::{Host, RealFiles, Sink, StdSink, Stream, System, Writer};
-use vip_tools::{Refusal, put_refusal};
+use vip_tools::{Refusal, Status, put_refusal};
 use vip_words::remark;
 
 /// The words behind the program's name, all of them.
@@ -41,11 +51,27 @@ fn words_of(alloc: Global, args: io::Result<env::Args>) -> Result<Vec<String>, R
     }
 }
 
-/// On a terminal puts what a user is told of the words behind the report, in a line, where there is something to tell.
-fn put_remark<E: Sink>(alloc: Global, is_terminal: bool, words: &[String], err: &mut E)
-    ensures { RemarkAnswers is_terminal (map string_bytes words.now) (E.meaning err.old) (E.meaning err.new) }
+/// Whether a remark may follow the report of a call with this status: its arguments were rejected, or
+/// something ran.
+fn is_remarked(status: Status) -> bool
+    ensures { result ≡ is_remarked status }
 {
-    if !is_terminal {
+    matches!(status, Status::Usage | Status::Done | Status::Stopped)
+}
+
+/// Whether a remark is shown: only on a terminal.
+fn is_shown(is_terminal: bool, status: Status) -> bool
+    ensures { result ≡ (is_terminal && is_remarked status) }
+{
+    is_terminal && is_remarked(status)
+}
+
+/// Writes the remark on the arguments after the report, in one line, if it is to be shown and there is
+/// one.
+fn put_remark<E: Sink>(alloc: Global, shown: bool, words: &[String], err: &mut E)
+    ensures { RemarkAnswers shown (map string_bytes words.now) (E.meaning err.old) (E.meaning err.new) }
+{
+    if !shown {
         return;
     }
     let Ok(line) = remark(alloc, words) else {
@@ -72,7 +98,8 @@ fn process<S: System, O: Stream, E: Stream>(
         Ok(words) => {
             let words = words.as_slice();
             let status = vip_main(alloc, words, files, out, err);
-            put_remark(alloc, is_terminal, words, err);
+            let shown = is_shown(is_terminal, status);
+            put_remark(alloc, shown, words, err);
             ExitCode::from(status.number())
         }
         Err(refusal) => {

@@ -52,35 +52,35 @@ use Rattle.vip_words.specs.declared.request.TextVerb.TheVariants as text
 
 -- what is due in the place of a word
 abbrev pub due_text : Due → List ℕ
-due_text due.File = codes "FILE is the name of a file"
-due_text due.Cycles = codes "CYCLES is a decimal number from 0 to 4000000000"
-due_text due.Number = codes "NUMBER is a decimal number from 0 to 4294967295"
-due_text due.Moves = codes "MOVES is a decimal number from 0 to 10000000"
-due_text (due.At Cdp1802) = codes "AT is a hexadecimal number from 0 to FFFF"
-due_text (due.At Chip8) = codes "AT is a hexadecimal number from 200 to FFF"
-due_text due.Entry = codes "ENTRY is a name of 1 to 32 bytes"
-due_text due.P = codes "P is one hexadecimal digit"
-due_text due.K = codes "K is one hexadecimal digit"
-due_text due.Verb = codes "VERB is a verb"
+due_text due.File = codes "FILE is not the name of a file"
+due_text due.Cycles = codes "CYCLES is not a decimal number from 0 to 4000000000"
+due_text due.Number = codes "NUMBER is not a decimal number from 0 to 4294967295"
+due_text due.Moves = codes "MOVES is not a decimal number from 0 to 10000000"
+due_text (due.At Cdp1802) = codes "AT is not a hexadecimal number from 0 to FFFF"
+due_text (due.At Chip8) = codes "AT is not a hexadecimal number from 200 to FFF"
+due_text due.Entry = codes "ENTRY is not a name of 1 to 32 bytes"
+due_text due.P = codes "P is not one hexadecimal digit"
+due_text due.K = codes "K is not one hexadecimal digit"
+due_text due.Verb = codes "unknown command"
 
 -- a rule that the words behind a verb of this name break
 abbrev pub rule_text : Word → Rule Word → List ℕ
-rule_text verb rule.Empty = verb ++ codes " takes no empty word"
-rule_text verb rule.Ends = verb ++ codes " has no --, and takes no word that begins with -"
+rule_text verb rule.Empty = verb ++ codes " takes no empty argument"
+rule_text verb rule.Ends = verb ++ codes " has no --; write ./-x for a file named -x"
 rule_text verb (rule.NoOption word) = verb ++ (codes " has no option " ++ word)
 rule_text verb rule.NoFile = codes "--keys lacks FILE"
-rule_text verb (rule.Twice option) = option ++ codes " stands twice"
+rule_text verb (rule.Twice option) = option ++ codes " is given twice"
 rule_text verb (rule.Lacks name) = verb ++ (codes " lacks " ++ name)
-rule_text verb (rule.TooMany word) = verb ++ (codes " has no place for " ++ word)
-rule_text verb (rule.Misread d word) = due_text d ++ (codes ", and " ++ (word ++ codes " is none"))
-rule_text verb (rule.Same word) = codes "P and K are two registers, and both are " ++ word
+rule_text verb (rule.TooMany word) = codes "too many arguments for " ++ (verb ++ (codes ": " ++ word))
+rule_text verb (rule.Misread d word) = due_text d ++ (codes ": " ++ word)
+rule_text verb (rule.Same word) = codes "P and K must be different registers, and both are " ++ word
 rule_text verb (rule.Needs first second) = codes "--" ++ (flag_name first ++ (codes " needs --" ++ flag_name second))
-rule_text verb (rule.Apart first second) = codes "--" ++ (flag_name first ++ (codes " and --" ++ (flag_name second ++ codes " don't go together")))
+rule_text verb (rule.Apart first second) = codes "--" ++ (flag_name first ++ (codes " and --" ++ (flag_name second ++ codes " can't be combined")))
 
 abbrev pub broken_text : Broken Word → List ℕ
-broken_text broken.NoVerb = codes "no verb stands here: vip help"
-broken_text (broken.NoSuchVerb word) = codes "there is no verb " ++ (word ++ codes ": vip help")
-broken_text (broken.Of v rule) = rule_text (row v).name rule ++ (codes ": vip help " ++ (row v).name)
+broken_text broken.NoVerb = codes "no command is given (see vip help)"
+broken_text (broken.NoSuchVerb word) = codes "unknown command: " ++ (word ++ codes " (see vip help)")
+broken_text (broken.Of v rule) = rule_text (row v).name rule ++ (codes " (see vip help " ++ ((row v).name ++ codes ")"))
 
 -- ---- what would be done
 
@@ -166,8 +166,8 @@ resumed_text run =
 
 -- in which words a source is, or a disassembly
 abbrev pub isa_text : Isa → List ℕ
-isa_text Cdp1802 = codes ", in words of the processor"
-isa_text Chip8 = codes ", in words of CHIP-8"
+isa_text Cdp1802 = codes ", in 1802 assembly"
+isa_text Chip8 = codes ", in CHIP-8 assembly"
 
 -- A name that is given in bytes: all of it, since the words of a command line are UTF-8.
 abbrev pub name_text : List ℕ → List ℕ
@@ -239,12 +239,10 @@ abbrev pub start_hint : Start Word → List ℕ
 start_hint (start.Game code edition) = code_hint code
 start_hint _ = []
 
--- the text of a source is taken as bytes
+-- the text of a source is run as bytes
 abbrev pub hint : Asked → List ℕ
 hint (request.Run run) = start_hint run.start
 hint (request.Program run) = code_hint run.code
-hint (request.Safe game certificate edition) = code_hint game
-hint (request.Certify game edition) = code_hint game
 hint _ = []
 
 abbrev pub remark_on : List Word → Option Asked → List ℕ

@@ -73,7 +73,7 @@ pub struct Row {
     pub writes: &'static str,
     /// A command that stands where the example files are.
     pub example: &'static str,
-    /// The page of the documents, and its sections, that explain the texts.
+    /// The pages in `docs/` that explain the texts.
     pub texts: &'static str,
     ghost few_words: { length words.now ≤ 4 },
     ghost known_options: { IsTrue (list_all (λ option. is_option option.now) options.now) },
@@ -142,52 +142,91 @@ impl Verb {
         }
     }
 
-    /// What its page says of the files that it takes, line by line: what is run or judged, and which commands there are.
+    /// Further lines of its page: its files, the debugger's commands, the unit of CYCLES, and the
+    /// exit statuses.
     pub fn notes(self) -> &'static [&'static str]
         ensures { map (λ line. line.now) result.now ≡ notes self }
     {
         match self {
             Verb::Trace | Verb::Play | Verb::Profile => &[
-                "FILE is a game for the interpreter, with --state a saved state, and with --rom or",
-                "--ram a program for the processor. With --asm it is a source: a game's in words",
-                "of CHIP-8, a program's in words of the processor.",
+                "GAME is a game's bytes, with --state a saved state, and with --rom or --ram a",
+                "program for the processor. With --asm it is a source: CHIP-8 assembly of a",
+                "game, or 1802 assembly of a program.",
+                "CYCLES counts machine cycles from reset: 3,668 in a frame and 220,080 in a",
+                "second, which has 60 frames.",
+                "Exit status: 0 success; 1 the game stopped; 2 wrong arguments; 3 to 26 another",
+                "error, which the message names. STATUSES.md lists them.",
             ],
             Verb::Debug => &[
-                "FILE is a game for the interpreter, with --state a saved state, and with --rom or",
-                "--ram a program for the processor. With --asm it is a source: a game's in words",
-                "of CHIP-8, a program's in words of the processor.",
+                "GAME is a game's bytes, with --state a saved state, and with --rom or --ram a",
+                "program for the processor. With --asm it is a source: CHIP-8 assembly of a",
+                "game, or 1802 assembly of a program.",
                 "With --state and --rom or --ram it is a saved state of a program.",
-                "COMMANDS has one of these a line; A is an address, or with --asm a name:",
+                "COMMANDS has one command per line. A is an address or, with --asm, a name:",
                 "  step N     makes N moves",
-                "  to C       goes on to cycle C",
-                "  at A       goes on to where the next instruction is at A",
-                "  watch A N  goes on to where one of N bytes from A on has changed",
-                "  next N     goes on to the N-th next dispatch point",
-                "  break A    goes on to the next dispatch point whose pc is A",
-                "  regs       shows the registers of the processor",
-                "  state      shows the state at the last dispatch point",
-                "  mem A N    shows N bytes from A on",
-                "  dis A N    shows N lines of the disassembly from A on",
-                "  list A N   shows N instructions of the processor from A on",
-                "  screen     shows the screen at the last dispatch point",
-                "  code A N   shows N opcodes of CHIP-8 from A on",
-                "With --rom or --ram there are no dispatch points, and so no next, break, state,",
-                "screen and code.",
+                "  to C       runs to cycle C",
+                "  at A       runs until the next instruction is at A",
+                "  watch A N  runs until one of the N bytes from A on changes",
+                "  next N     runs to the N-th next dispatch point",
+                "  break A    runs to the next dispatch point whose pc is A",
+                "  regs       prints the registers of the processor",
+                "  state      prints the state at the last dispatch point",
+                "  mem A N    prints N bytes from A on",
+                "  dis A N    prints N lines of the disassembly from A on",
+                "  list A N   prints N instructions of the processor from A on",
+                "  screen     prints the screen at the last dispatch point",
+                "  code A N   prints N opcodes of CHIP-8 from A on",
+                "At a dispatch point the interpreter is about to fetch an opcode. There are",
+                "none with --rom or --ram, so next, break, state, screen and code are not",
+                "available.",
+                "CYCLES counts machine cycles from reset: 3,668 in a frame and 220,080 in a",
+                "second, which has 60 frames.",
+                "Exit status: 0 success; 1 the game stopped; 2 wrong arguments; 3 to 26 another",
+                "error, which the message names. STATUSES.md lists them.",
             ],
             Verb::Save => &[
-                "FILE is a game for the interpreter, with --state a saved state, and with --rom or",
-                "--ram a program for the processor. With --asm it is a source: a game's in words",
-                "of CHIP-8, a program's in words of the processor.",
+                "GAME is a game's bytes, with --state a saved state, and with --rom or --ram a",
+                "program for the processor. With --asm it is a source: CHIP-8 assembly of a",
+                "game, or 1802 assembly of a program.",
                 "With --state and --rom or --ram it is a saved state of a program.",
+                "CYCLES counts machine cycles from reset: 3,668 in a frame and 220,080 in a",
+                "second, which has 60 frames.",
+                "Exit status: 0 success; 1 the game stopped; 2 wrong arguments; 3 to 26 another",
+                "error, which the message names. STATUSES.md lists them.",
+            ],
+            Verb::Resume => &[
+                "STATE is a file that save wrote.",
+                "CYCLES counts machine cycles from reset: 3,668 in a frame and 220,080 in a",
+                "second, which has 60 frames.",
+                "Exit status: 0 success; 1 the game stopped; 2 wrong arguments; 3 to 26 another",
+                "error, which the message names. STATUSES.md lists them.",
+            ],
+            Verb::Demo | Verb::Digest => &[
+                "CYCLES counts machine cycles from reset: 3,668 in a frame and 220,080 in a",
+                "second, which has 60 frames.",
+                "Exit status: 0 success; 2 wrong arguments; 3 to 26 another error, which the",
+                "message names. STATUSES.md lists them.",
+            ],
+            Verb::Check => &[
+                "Exit status: 0 no error in the source; 7 an error in it; 2 wrong arguments;",
+                "3 to 26 another error, which the message names. STATUSES.md lists them.",
             ],
             Verb::Timing => &[
-                "FILE is a source in words of the processor, and ENTRY a name or an address of a",
-                "routine in the ROM, from 8000 to 87FF. P is its program counter, K its counter.",
+                "FILE is a source in 1802 assembly. ENTRY is a name or an address of a routine",
+                "in the ROM, from 8000 to 87FF. P and K are its program counter and its",
+                "counter, each a register given by one hexadecimal digit.",
+                "Exit status: 0 success; 2 wrong arguments; 3 to 26 another error, which the",
+                "message names. STATUSES.md lists them.",
             ],
             Verb::Safe | Verb::Certify => &[
-                "GAME is a game for the interpreter, and with --asm its source in words of CHIP-8.",
+                "GAME is a game's bytes or, with --asm, its source in CHIP-8 assembly.",
+                "Exit status: 0 success; 2 wrong arguments; 3 to 26 another error, which the",
+                "message names. STATUSES.md lists them.",
             ],
-            _ => &[],
+            _ => &[
+                "Exit status: 0 success; 2 wrong arguments; 3 to 26 another error, which the",
+                "message names. STATUSES.md lists them.",
+            ],
         }
     }
 
@@ -227,10 +266,9 @@ impl Verb {
         ensures few { length result.now ≤ 4 }
     {
         match self {
-            Verb::Trace | Verb::Play | Verb::Save | Verb::Profile | Verb::Digest => {
-                &["FILE", "CYCLES"]
-            }
-            Verb::Debug => &["FILE", "CYCLES", "COMMANDS"],
+            Verb::Trace | Verb::Play | Verb::Save | Verb::Profile => &["GAME", "CYCLES"],
+            Verb::Digest => &["FILE", "CYCLES"],
+            Verb::Debug => &["GAME", "CYCLES", "COMMANDS"],
             Verb::Resume => &["STATE", "CYCLES"],
             Verb::Demo => &["NUMBER", "CYCLES"],
             Verb::Link => &["FILE", "MOVES", "NUMBER"],
@@ -241,7 +279,7 @@ impl Verb {
             Verb::Safe => &["GAME", "CERT"],
             Verb::Certify => &["GAME"],
             Verb::Help => &["VERB"],
-            Verb::Why => &["WORD.."],
+            Verb::Why => &["ARGUMENT.."],
             Verb::Source | Verb::Bounds | Verb::Version => &[],
         }
     }
@@ -294,28 +332,28 @@ impl Verb {
         ensures { result.now ≡ (row self).writes }
     {
         match self {
-            Verb::Trace => "each instruction that a run met",
-            Verb::Play => "each picture of a run",
-            Verb::Debug => "the answers to commands",
+            Verb::Trace => "one line per instruction of a run",
+            Verb::Play => "every picture of a run",
+            Verb::Debug => "the answers to debugger commands",
             Verb::Save => "the state of the machine as a file",
-            Verb::Profile => "where the time of a run goes",
-            Verb::Resume => "how a saved state goes on",
-            Verb::Demo => "the run of a random game in one line",
-            Verb::Digest => "digests of the runs of many games",
-            Verb::Link => "a message from one board to another",
+            Verb::Profile => "where a run spends its time",
+            Verb::Resume => "the trace of a run resumed from a saved state",
+            Verb::Demo => "a one-line summary of the run of a random game",
+            Verb::Digest => "digests of the runs of a list of games",
+            Verb::Link => "a message sent from one board to another",
             Verb::Asm => "the bytes of a source",
-            Verb::Check => "every fault of a source",
+            Verb::Check => "every error of a source, with suggestions",
             Verb::List => "the listing of a source",
-            Verb::Dis => "bytes as a source",
-            Verb::Source => "the source of the interpreter, or of a program of two joined boards",
-            Verb::Bounds => "the most cycles of each opcode",
-            Verb::Cycles => "whether a routine keeps its limit",
-            Verb::Timing => "a limit of a routine, with its certificate",
-            Verb::Safe => "whether a certificate of a game is right",
+            Verb::Dis => "the disassembly of bytes",
+            Verb::Source => "the source of the interpreter, or of a program that link runs",
+            Verb::Bounds => "the most machine cycles that each opcode takes",
+            Verb::Cycles => "whether a certificate of a routine holds",
+            Verb::Timing => "a worst-case time certificate of a routine",
+            Verb::Safe => "whether a certificate of a game holds",
             Verb::Certify => "a certificate that a game never stops",
-            Verb::Help => "all verbs, or one with its options and an example",
+            Verb::Help => "all verbs, or one verb with its options and an example",
             Verb::Version => "the name and the version",
-            Verb::Why => "why words are refused, or what would be done",
+            Verb::Why => "why arguments are rejected, or what they ask for",
         }
     }
 
@@ -349,29 +387,29 @@ impl Verb {
         }
     }
 
-    // The page of the documents, and its sections, that explain the texts.
+    // The pages in `docs/` that explain the texts.
     fn texts(self) -> &'static str
         ensures { result.now ≡ (row self).texts }
     {
         match self {
-            Verb::Trace => "FORMATS.md, A trace; The trace of a program",
-            Verb::Play => "FORMATS.md, A screen and a picture",
-            Verb::Debug => "FORMATS.md, The debugger's commands",
-            Verb::Save => "FORMATS.md, A machine state",
-            Verb::Profile => "FORMATS.md, A profile",
-            Verb::Resume => "FORMATS.md, A trace; A machine state",
-            Verb::Demo => "FORMATS.md, A demonstration and its summary",
-            Verb::Digest => "FORMATS.md, A list of games",
-            Verb::Link => "FORMATS.md, Two boards",
-            Verb::Asm => "SOURCES.md, 1802 assembly; CHIP-8 assembly; The dump; The bytes",
-            Verb::Check => "SOURCES.md, The faults; Every fault",
-            Verb::List => "SOURCES.md, The listing",
-            Verb::Dis => "SOURCES.md, The disassembly",
-            Verb::Source => "MACHINE.md, The ROM; Two boards",
-            Verb::Bounds => "MACHINE.md, Bounds",
-            Verb::Cycles | Verb::Timing => "SOURCES.md, A cycle certificate",
-            Verb::Safe | Verb::Certify => "SOURCES.md, A certificate of a game",
-            Verb::Help | Verb::Version | Verb::Why => "COMMANDS.md, The words",
+            Verb::Trace => "FORMATS.md",
+            Verb::Play => "FORMATS.md",
+            Verb::Debug => "DEBUGGER.md",
+            Verb::Save => "FORMATS.md",
+            Verb::Profile => "FORMATS.md",
+            Verb::Resume => "FORMATS.md",
+            Verb::Demo => "FORMATS.md",
+            Verb::Digest => "FORMATS.md",
+            Verb::Link => "FORMATS.md",
+            Verb::Asm => "ASSEMBLER.md",
+            Verb::Check => "ASSEMBLER.md, SUGGESTIONS.md",
+            Verb::List => "ASSEMBLER.md",
+            Verb::Dis => "ASSEMBLER.md",
+            Verb::Source => "MACHINE.md",
+            Verb::Bounds => "MACHINE.md",
+            Verb::Cycles | Verb::Timing => "CERTIFICATES.md",
+            Verb::Safe | Verb::Certify => "CERTIFICATES.md",
+            Verb::Help | Verb::Version | Verb::Why => "COMMANDS.md",
         }
     }
 }
@@ -379,24 +417,21 @@ impl Verb {
 /// Each option, and what is said of it.
 pub const ABOUT: [(&str, &str); 16] = [
     ("--keys", "a key script"),
-    ("--at", "the tick and the machine cycle of each line"),
-    ("--screen", "the last screen behind the lines"),
-    ("--words", "the opcode of each line in words"),
-    ("--tall", "the edition with 64 rows"),
-    ("--state", "a saved state instead of a game"),
-    ("--raw", "the bytes themselves"),
-    (
-        "--chip8",
-        "words of CHIP-8 instead of those of the processor",
-    ),
-    ("--asm", "a source instead of bytes"),
+    ("--at", "the tick count and the machine cycle of each line"),
+    ("--screen", "the final screen after the lines"),
+    ("--words", "the mnemonic of each opcode"),
+    ("--tall", "the variant with 64 rows"),
+    ("--state", "a saved state in place of a game"),
+    ("--raw", "the bytes themselves in place of a dump"),
+    ("--chip8", "CHIP-8 in place of 1802 assembly"),
+    ("--asm", "a source in place of bytes"),
     ("--echo", "each command before its answer"),
-    ("--exits", "where the routine is left"),
-    ("--rom", "a program in the ROM instead of a game"),
-    ("--ram", "a program in RAM instead of a game"),
+    ("--exits", "the exits of the routine"),
+    ("--rom", "a program in the ROM in place of a game"),
+    ("--ram", "a program in RAM in place of a game"),
     ("--sender", "the program that sends a message"),
-    ("--receiver", "the program that receives it"),
-    ("--source", "the line of the source that gave it"),
+    ("--receiver", "the program that receives a message"),
+    ("--source", "the source line of each opcode"),
 ];
 
 // The first of some lines about options that is about this one.

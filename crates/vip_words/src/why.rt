@@ -35,16 +35,16 @@ impl fmt::Display for Due {
 
     fn fmt<W: fmt::Write>(&self, f: &mut fmt::Formatter<W>) -> fmt::Result {
         match self {
-            Due::File => write!(f, "FILE is the name of a file"),
-            Due::Cycles => write!(f, "CYCLES is a decimal number from 0 to 4000000000"),
-            Due::Number => write!(f, "NUMBER is a decimal number from 0 to 4294967295"),
-            Due::Moves => write!(f, "MOVES is a decimal number from 0 to 10000000"),
-            Due::At(Isa::Cdp1802) => write!(f, "AT is a hexadecimal number from 0 to FFFF"),
-            Due::At(Isa::Chip8) => write!(f, "AT is a hexadecimal number from 200 to FFF"),
-            Due::Entry => write!(f, "ENTRY is a name of 1 to 32 bytes"),
-            Due::P => write!(f, "P is one hexadecimal digit"),
-            Due::K => write!(f, "K is one hexadecimal digit"),
-            Due::Verb => write!(f, "VERB is a verb"),
+            Due::File => write!(f, "FILE is not the name of a file"),
+            Due::Cycles => write!(f, "CYCLES is not a decimal number from 0 to 4000000000"),
+            Due::Number => write!(f, "NUMBER is not a decimal number from 0 to 4294967295"),
+            Due::Moves => write!(f, "MOVES is not a decimal number from 0 to 10000000"),
+            Due::At(Isa::Cdp1802) => write!(f, "AT is not a hexadecimal number from 0 to FFFF"),
+            Due::At(Isa::Chip8) => write!(f, "AT is not a hexadecimal number from 200 to FFF"),
+            Due::Entry => write!(f, "ENTRY is not a name of 1 to 32 bytes"),
+            Due::P => write!(f, "P is not one hexadecimal digit"),
+            Due::K => write!(f, "K is not one hexadecimal digit"),
+            Due::Verb => write!(f, "unknown command"),
         }
     }
 }
@@ -66,22 +66,25 @@ impl fmt::Display for Sentence<'_> {
     fn fmt<W: fmt::Write>(&self, f: &mut fmt::Formatter<W>) -> fmt::Result {
         let verb = self.verb;
         match self.rule {
-            Rule::Empty => write!(f, "{verb} takes no empty word"),
-            Rule::Ends => write!(f, "{verb} has no --, and takes no word that begins with -"),
+            Rule::Empty => write!(f, "{verb} takes no empty argument"),
+            Rule::Ends => write!(f, "{verb} has no --; write ./-x for a file named -x"),
             Rule::NoOption(word) => write!(f, "{verb} has no option {word}"),
             Rule::NoFile => write!(f, "--keys lacks FILE"),
-            Rule::Twice(option) => write!(f, "{option} stands twice"),
+            Rule::Twice(option) => write!(f, "{option} is given twice"),
             Rule::Lacks(name) => write!(f, "{verb} lacks {name}"),
-            Rule::TooMany(word) => write!(f, "{verb} has no place for {word}"),
-            Rule::Misread(due, word) => write!(f, "{due}, and {word} is none"),
-            Rule::Same(word) => write!(f, "P and K are two registers, and both are {word}"),
+            Rule::TooMany(word) => write!(f, "too many arguments for {verb}: {word}"),
+            Rule::Misread(due, word) => write!(f, "{due}: {word}"),
+            Rule::Same(word) => write!(
+                f,
+                "P and K must be different registers, and both are {word}"
+            ),
             Rule::Needs(first, second) => {
                 let (first, second) = (first.name(), second.name());
                 write!(f, "--{first} needs --{second}")
             }
             Rule::Apart(first, second) => {
                 let (first, second) = (first.name(), second.name());
-                write!(f, "--{first} and --{second} don't go together")
+                write!(f, "--{first} and --{second} can't be combined")
             }
         }
     }
@@ -96,12 +99,12 @@ impl fmt::Display for Broken<&str> {
 
     fn fmt<W: fmt::Write>(&self, f: &mut fmt::Formatter<W>) -> fmt::Result {
         match *self {
-            Broken::NoVerb => write!(f, "no verb stands here: vip help"),
-            Broken::NoSuchVerb(word) => write!(f, "there is no verb {word}: vip help"),
+            Broken::NoVerb => write!(f, "no command is given (see vip help)"),
+            Broken::NoSuchVerb(word) => write!(f, "unknown command: {word} (see vip help)"),
             Broken::Of(verb, rule) => {
                 let verb = verb.name();
                 let sentence = Sentence { verb, rule };
-                write!(f, "{sentence}: vip help {verb}")
+                write!(f, "{sentence} (see vip help {verb})")
             }
         }
     }
@@ -386,8 +389,8 @@ fn isa_text(isa: Isa) -> &'static str
     ensures { result.now ≡ isa_text isa }
 {
     match isa {
-        Isa::Cdp1802 => ", in words of the processor",
-        Isa::Chip8 => ", in words of CHIP-8",
+        Isa::Cdp1802 => ", in 1802 assembly",
+        Isa::Chip8 => ", in CHIP-8 assembly",
     }
 }
 
@@ -601,14 +604,13 @@ fn start_hint(alloc: Global, start: &Start<&str>) -> Result<String, AllocError>
     }
 }
 
-/// A remark on what is asked for.
+/// A remark on the run that is asked for.
 fn hint(alloc: Global, request: &Request<&str>) -> Result<String, AllocError>
     ensures { IfOk result (λ line. string_bytes line ≡ hint (asked_of request.now)) }
 {
     match request {
         Request::Run(run) => start_hint(alloc, &run.start),
         Request::Program(run) => code_hint(alloc, &run.code),
-        Request::Safe { game, .. } | Request::Certify { game, .. } => code_hint(alloc, game),
         _ => Ok(String::new(alloc)),
     }
 }

@@ -6,7 +6,7 @@ pub returns-in-Ok : goal.returns-in-Ok
 returns-in-Ok g c =
     runs c.args.is_terminal _ _ _ _ _ _ _ c.args.args c.in-Ok.words c.as_slice-words.result.now c.vip_main-status.result _ c.in-Ok.ensures c.as_slice-words.ensures.value
     (record { finished = c.vip_main-status.ensures.finished; promises = c.vip_main-status.ensures.promises })
-    c.put_remark.ensures
+    (rw c.is_shown-shown.ensures at c.put_remark.ensures)
     (c.from.ensures ∙ c.number.ensures)
 
 pub returns-in-Err : goal.returns-in-Err
