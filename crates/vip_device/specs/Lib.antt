@@ -1,0 +1,4 @@
+pub mod Codes
+pub mod Device
+pub mod Places
+pub mod Setup
