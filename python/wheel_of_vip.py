@@ -25,7 +25,7 @@ def library_and_version() -> tuple[bytes, str]:
     # (the package has a function of the same name as this module)
     _engine = importlib.import_module("vip._engine")
 
-    return pathlib.Path(_engine._library()).read_bytes(), vip.version()
+    return pathlib.Path(_engine.library_path()).read_bytes(), vip.version()
 
 
 def tag(library: bytes) -> str:
@@ -36,9 +36,24 @@ def tag(library: bytes) -> str:
     return f"py3-none-manylinux_{major}_{minor}_x86_64{ALIASES.get((major, minor), '')}"
 
 
+def section(project: str, name: str) -> str:
+    """Return the lines of a table of pyproject.toml."""
+    return re.search(rf"(?ms)^\[{re.escape(name)}\]\n(.*?)(?=^\[|\Z)", project)[1].rstrip("\n") + "\n"
+
+
+def extras(project: str) -> list[str]:
+    """Return the lines of METADATA that name the optional dependencies."""
+    lines = []
+    for extra, names in re.findall(r"(?m)^(\w+) = \[(.*)\]$", section(project, "project.optional-dependencies")):
+        lines.append(f"Provides-Extra: {extra}\n")
+        lines += [f'Requires-Dist: {name} ; extra == "{extra}"\n' for name in re.findall(r'"(.*?)"', names)]
+    return lines
+
+
 def files_of_wheel() -> tuple[str, str, dict[str, bytes]]:
     """Return the wheel's name and version, its tag, and the content of each file in it."""
-    said = dict(re.findall(r'(?m)^([\w-]+) = "(.*)"$', (HERE / "pyproject.toml").read_text(encoding="utf-8")))
+    project = (HERE / "pyproject.toml").read_text(encoding="utf-8")
+    said = dict(re.findall(r'(?m)^([\w-]+) = "(.*)"$', project))
     library, version = library_and_version()
     stem = f"vip-{version}"
     files = {f"vip/{path.name}": path.read_bytes() for path in sorted((HERE / "vip").iterdir()) if path.suffix in (".py", ".typed")}
@@ -50,7 +65,10 @@ def files_of_wheel() -> tuple[str, str, dict[str, bytes]]:
         "Summary": said["description"],
         "Requires-Python": said["requires-python"],
     }
-    files[f"{stem}.dist-info/METADATA"] = "".join(f"{name}: {value}\n" for name, value in metadata.items()).encode()
+    lines = [f"{name}: {value}\n" for name, value in metadata.items()]
+    files[f"{stem}.dist-info/METADATA"] = "".join([*lines, *extras(project)]).encode()
+    points = section(project, "project.entry-points.pytest11").replace('"', "")
+    files[f"{stem}.dist-info/entry_points.txt"] = f"[pytest11]\n{points}".encode()
     interpreter, abi, platforms = tag(library).split("-")
     tags = "".join(f"Tag: {interpreter}-{abi}-{platform}\n" for platform in platforms.split("."))
     files[f"{stem}.dist-info/WHEEL"] = f"Wheel-Version: 1.0\nGenerator: vip\nRoot-Is-Purelib: false\n{tags}".encode()

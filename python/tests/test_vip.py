@@ -23,7 +23,7 @@ class Sources(unittest.TestCase):
     def test_tells_every_fault(self):
         with self.assertRaises(vip.SourceError) as bad:
             vip.assemble("start: LDI 05H\n PLO 7\n", isa="1802")
-        faults = [(1, 12, "BadOperand", "05H", "hexadecimal is 0x05"), (2, 6, "BadOperand", "7", "the register is R7")]
+        faults = [(1, 12, "BadOperand", "05H", "write hexadecimal as 0x05"), (2, 6, "BadOperand", "7", "write the register as R7")]
         self.assertEqual([tuple(fault) for fault in bad.exception.faults], faults)
         self.assertEqual((bad.exception.status, bad.exception.report), (7, "vip: source line 1: BadOperand"))
 
@@ -65,10 +65,10 @@ class Faults(unittest.TestCase):
             for fault in faults
         ]
         if faults.is_octo:
-            lines.append("s: this looks like Octo: see docs/FIRST_CHIP8.md, From Octo")
+            lines.append("s: this looks like Octo: see docs/FIRST_GAME.md")
         if faults.waiting:
-            more = "line more is" if faults.waiting == 1 else "lines more are"
-            lines.append(f"s: {faults.waiting} {more} looked at when these are mended")
+            more = "more line is" if faults.waiting == 1 else "more lines are"
+            lines.append(f"s: {faults.waiting} {more} checked after these errors are fixed")
         self.assertEqual(out.decode().splitlines(), lines)
         for fault in faults:
             line = source.split(b"\n")[fault.line - 1][fault.column - 1 :]
@@ -100,12 +100,12 @@ class Faults(unittest.TestCase):
         self.assertGreater(sum(faults.is_octo for faults in found), 20)
 
     def test_parts_the_suggestion_from_the_text(self):
-        faults = vip.check(" LDI 1 (2)\n LDI (5)\n FOO (x)\n BGE (here it is BDF)\n", "1802")
+        faults = vip.check(" LDI 1 (2)\n LDI (5)\n FOO (x)\n BGE (use BDF)\n", "1802")
         parts = [(fault.culprit, fault.remedy) for fault in faults]
-        self.assertEqual(parts[0], ("1 (2)", "an expression has no blanks"))
-        self.assertEqual(parts[1], ("(5)", "there are no parentheses"))
+        self.assertEqual(parts[0], ("1 (2)", "an expression can't contain blanks"))
+        self.assertEqual(parts[1], ("(5)", "parentheses are not supported"))
         self.assertEqual(parts[2], ("FOO", ""))
-        self.assertEqual(parts[3], ("BGE", "here it is BDF"))
+        self.assertEqual(parts[3], ("BGE", "use BDF"))
 
     def test_says_how_many_lines_wait(self):
         faults = vip.check(" LDI #5\nx: BR x\n FOO\n", "1802")

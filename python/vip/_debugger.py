@@ -7,7 +7,7 @@ import pathlib
 import re
 import sys
 import time
-from typing import Callable, Iterator, NamedTuple, Sequence
+from typing import Any, Callable, Iterator, NamedTuple, Sequence
 
 from . import _texts, uses_library
 from ._engine import Processes
@@ -34,8 +34,10 @@ VARIABLES = (*(f"V{k:X}" for k in range(16)), "pc", "I", "DT", "ST", "Q", "S")
 
 
 class Moment(NamedTuple):
-    """Where a session is: a cycle of the run, the script that led there, and the commands of
-    `vip debug` that come there, each with its cycle.
+    """A position of a session.
+
+    It has a cycle of the run, the key script that led there, and the commands of
+    `vip debug` that lead there, each with its cycle.
     """
 
     cycle: int
@@ -43,14 +45,14 @@ class Moment(NamedTuple):
     entries: tuple[tuple[str, int], ...]
 
 
-def fields_of_point(point: _texts.Point) -> dict:
-    """The variables of a dispatch point by their names."""
+def fields_of_point(point: _texts.Point) -> dict[str, Any]:
+    """Return the variables of a dispatch point by their names."""
     values = (*point.v, point.pc, point.i, point.dt, point.st, int(point.tone), point.stack)
     return dict(zip(VARIABLES, values)) | {"cycle": point.cycle, "frame": point.cycle // FRAME}
 
 
 def shown(value: int | tuple[int, ...], name: str = "") -> str:
-    """A value as the trace shows it."""
+    """Return a value as the trace shows it."""
     if isinstance(value, tuple):
         return " ".join(f"{at:04X}" for at in value) or "empty"
     if name == "cycle":
@@ -59,10 +61,10 @@ def shown(value: int | tuple[int, ...], name: str = "") -> str:
 
 
 def count_in(words: Sequence[str], at: int) -> int:
-    """A word that is a count, 1 if it isn't there."""
+    """Return an operand that is a count, or 1 if there is none."""
     word = words[at] if len(words) > at else "1"
     if not word.isdecimal() or not 1 <= int(word) <= 1_000_000:
-        raise Refused(f"{words[0]} takes a decimal number from 1 to 1,000,000, and {word} is none")
+        raise Refused(f"{words[0]}: not a decimal number from 1 to 1,000,000: {word}")
     return int(word)
 
 
@@ -78,16 +80,16 @@ COUNTED = {  # what a command counts, and the most of it
 
 
 def check_limits(words: Sequence[str], address: int | None) -> None:
-    """Refuse a number that `vip debug` refuses for its size, and say which one it is."""
+    """Reject a number that is too large for `vip debug`, and say which one it is."""
     if words[0] == "to" and words[1:] and words[1].isdecimal() and int(words[1]) > MOST_CYCLE:
-        raise Refused(f"the cycle {words[1]} is too large: the last one is {MOST_CYCLE:,}")
+        raise Refused(f"the cycle {words[1]} is too large: the last cycle is {MOST_CYCLE:,}")
     what, most = COUNTED.get(words[0], ("", 0))
     if not what or not words[-1].isdecimal() or len(words) != (2 if words[0] in ("step", "next") else 3):
         return
     count = int(words[-1])
     if not 1 <= count <= most:
         size = "too small" if count < 1 else "too large"
-        raise Refused(f"{words[-1]} is {size} a number of {what}: {words[0]} takes 1 to {most:,}")
+        raise Refused(f"{words[-1]} {what} is {size}: {words[0]} takes 1 to {most:,}")
     if what == "bytes" and address is not None and address + count > 0x10000:
         raise Refused(
             f"{count} bytes from {address:04X} on are too many: the last byte is at FFFF, "
@@ -96,52 +98,55 @@ def check_limits(words: Sequence[str], address: int | None) -> None:
 
 
 def name_in(words: Sequence[str]) -> str:
-    """The one word after a command."""
+    """Return the one operand of a command."""
     if len(words) == 2:
         return words[1]
     raise Refused(f"{words[0]} takes one name")
 
 
 class Session:
-    """A session: the run, the place in it, and the places before."""
+    """A session: the run, the position in it, and the positions before."""
 
-    def __init__(self, run: Replay, put: Callable, is_terminal: bool, top: str):
+    def __init__(self, run: Replay, put: Callable[..., Any], is_terminal: bool, top: str):
         self.run, self.put, self.is_terminal, self.top = run, put, is_terminal, top
         self.search = ProgramSearch(run)
         self.here = Moment(run.first, run.script, ())
         self.past: list[Moment] = []
-        self.marks: dict[str, tuple[Moment, tuple]] = {}
+        self.marks: dict[str, tuple[Moment, tuple[Any, ...]]] = {}
         self.last_mark: Moment | None = None
         # the commands whose answers say where a run is
         self.looks = ["regs"] if run.is_program else ["regs", "state"]
         self.seen = self.look(self.here.cycle)
 
     def say(self, text: object, colour: str | None = "36") -> None:
-        """Put a line of the debugger's own."""
+        """Write a line of the debugger's own."""
         self.put(f"| {text}", colour)
 
     def answer(self, lines: Sequence[str]) -> None:
-        """Put an answer of `vip debug`."""
+        """Write an answer of `vip debug`."""
         for line in lines:
             self.put(line, None)
 
     # ---- the place
 
     @staticmethod
-    def fields_of(answers: Sequence[Sequence[str]]) -> dict:
-        """The fields of the answers of `looks`; `point` is the cycle of the last dispatch point."""
+    def fields_of(answers: Sequence[Sequence[str]]) -> dict[str, Any]:
+        """Return the fields of the answers of `looks`.
+
+        `point` is the cycle of the last dispatch point.
+        """
         fields = fields_of_registers(_texts.registers("\n".join(answers[0]) + "\n"))
         if len(answers) > 1 and answers[1] != ["none"]:
             state = fields_of_point(_texts.point(answers[1][0]))
             fields |= {**state, "cycle": fields["cycle"], "frame": fields["frame"], "point": state["cycle"]}
         return fields
 
-    def look(self, cycle: int) -> dict:
-        """The variables at a cycle, and the processor's registers."""
+    def look(self, cycle: int) -> dict[str, Any]:
+        """Return the variables at a cycle, and the processor's registers."""
         return self.fields_of(self.run.ask(cycle, self.looks, cycle))
 
-    def show_place(self, fields: dict) -> None:
-        """Put what has changed since the last place, and the source's line with its neighbours."""
+    def show_place(self, fields: dict[str, Any]) -> None:
+        """Write what has changed since the last position, and the source's lines."""
         names = fields if self.run.is_program else VARIABLES
         changes = [
             f"{name} {shown(self.seen[name], name)} to {shown(fields[name], name)}"
@@ -159,7 +164,7 @@ class Session:
                 self.say(line, "32" if line.startswith(">") else "2")
         self.seen = fields
 
-    def go(self, moment: Moment, fields: dict | None = None, is_kept: bool = True) -> None:
+    def go(self, moment: Moment, fields: dict[str, Any] | None = None, is_kept: bool = True) -> None:
         """Go to a moment, and keep the one before for `back`."""
         self.past += [self.here] if is_kept else []
         self.run.set_script(moment.script)
@@ -181,7 +186,8 @@ class Session:
     # ---- commands of vip debug
 
     def moves(self, words: list[str]) -> None:
-        """step N, next N, to C, at A, break A, watch A N: move on as in `vip debug`; `to` an earlier cycle goes back."""
+        """step N, next N, to C, at A, break A, watch A N: run forward, as in `vip debug`.
+        to C: if cycle C is before here, run in reverse."""
         if words[0] == "to" and len(words) == 2 and words[1].isdecimal() and int(words[1]) <= MOST_CYCLE:
             return self.go_to(int(words[1]))
         most = min(MOST_CYCLE, self.here.cycle + REACH)
@@ -189,7 +195,7 @@ class Session:
         self.answer(answer)
         if answer[-1:] == ["end"]:
             return self.say(
-                f"not within ten minutes from here, so nothing has moved: `to {most}` and then again looks further"
+                f"not within ten minutes from here, so nothing has moved; to look further: `to {most}`, then again"
             )
         fields = self.fields_of(looks)
         self.run.keep(fields["cycle"])
@@ -197,21 +203,22 @@ class Session:
         return self.go(Moment(fields["cycle"], self.run.script, (*self.here.entries, entry)), fields)
 
     def shows(self, words: list[str]) -> None:
-        """regs, state, mem A N, dis A N, list A N, code A N, screen: show, as in `vip debug`."""
+        """regs, state, mem A N, dis A N, list A N, code A N, screen: as in `vip debug`."""
         (lines,) = self.run.ask(self.here.cycle, [self.plain(words)], self.here.cycle)
         self.answer(lines)
         self.here = self.here._replace(entries=(*self.here.entries, (" ".join(words), self.here.cycle)))
 
     def plain(self, words: list[str]) -> str:
-        """The command with names of a source as numbers, since a kept state has no names."""
+        """Return the command with names as numbers, since a kept state has no names."""
         at = self.address_of(words[1]) if len(words) > 1 and words[0] in TAKES_ADDRESS else None
         check_limits(words, at)
         return " ".join(words if at is None else [words[0], f"{at:04X}", *words[2:]])
 
     def address_of(self, word: str) -> int | None:
-        """The address that a word is for `vip debug`: a name of the source, which wins over a
-        number, and after a colon always a name; or one to four hexadecimal digits. None if it is no
-        address.
+        """Return the address that `vip debug` means by an operand, or None.
+
+        It is a name of the source, which wins over a number, or one to four hexadecimal
+        digits. After a colon it is always a name.
         """
         numbers = self.run.source.numbers if self.run.source else {}
         name = word[1:] if word.startswith(":") else word
@@ -220,13 +227,13 @@ class Session:
         if re.fullmatch("[0-9A-Fa-f]{1,4}", word):
             return int(word, 16)
         if self.run.source and re.fullmatch(r":?[A-Za-z_]\w*", word):
-            raise Refused(f"the source gives {name} no address: Tab completes its names")
+            raise Refused(f"the source gives {name} no address; Tab completes its names")
         return None
 
     # ---- back
 
     def back(self, words: list[str]) -> None:
-        """back [N]: takes back the last N commands that moved."""
+        """back [N]: undo the last N commands that moved."""
         count = count_in(words, 1)
         if not self.past:
             raise Refused("nothing has moved yet")
@@ -235,14 +242,16 @@ class Session:
         self.go(moment, is_kept=False)
 
     def before(self, words: list[str]) -> None:
-        """step -N: N moves back. next -N: the N-th dispatch point before here. break -A: the last before here whose pc is A."""
+        """step -N: go N moves back.
+        next -N: go to the N-th dispatch point before here.
+        break -A: go to the last dispatch point before here whose pc is A."""
         if words[0] == "step":
             return self.go_to(self.moves_back(int(words[1][1:])))
         count, head = 1, ""
         if words[0] == "break":
             at = self.address_of(words[1][1:])
             if at is None:
-                raise Refused(f"{words[1][1:]} is no address")
+                raise Refused(f"not an address: {words[1][1:]}")
             head = f"{at:04X} "
         else:
             count = int(words[1][1:])
@@ -255,7 +264,10 @@ class Session:
         raise Refused("there is no such point before here")
 
     def moves_back(self, count: int) -> int:
-        """The cycle a number of moves before here. A move has at most three cycles."""
+        """Return the cycle a number of moves before here.
+
+        A move has at most three cycles.
+        """
         here = self.here.cycle
         start = max(self.run.first, here - 3 * count - 12)
         low, high = 0, here - start  # moves from there that end before here, and that don't
@@ -265,7 +277,7 @@ class Session:
         return self.after(start, max(low - count, 0))
 
     def after(self, start: int, moves: int) -> int:
-        """The cycle a number of moves after a place."""
+        """Return the cycle a number of moves after a position."""
         commands = [f"step {moves}", "regs"] if moves else ["regs"]
         answer = self.run.ask(start, commands, self.here.cycle)[-1]
         return _texts.registers("\n".join(answer) + "\n").cycle
@@ -273,7 +285,7 @@ class Session:
     # ---- last
 
     def last(self, words: list[str]) -> None:
-        """last NAME|ADDRESS: the instruction that last changed a variable, a byte or a register before here."""
+        """last NAME|ADDRESS: go to the last change of a variable, a byte or a register."""
         name, source = name_in(words), self.run.source
         name = source.registers.get(name, name) if source else name
         if not (source and name.removeprefix(":") in source.numbers):
@@ -285,12 +297,12 @@ class Session:
         at = self.address_of(name)
         if at is None:
             raise Refused(
-                f"{name} is no variable, no register and no address" + ("" if source else "; names need --asm")
+                f"not a variable, a register or an address: {name}" + ("" if source else "; names need --asm")
             )
         return self.last_byte(at)
 
     def since(self) -> str:
-        """From where on nothing is known to have changed."""
+        """Return the name of the run's start, before which no change is known."""
         return "the saved state" if "--state" in self.run.options else "reset"
 
     def last_variable(self, name: str) -> None:
@@ -315,7 +327,7 @@ class Session:
 
     @staticmethod
     def differs(name: str, text: str, later: _texts.Point | None) -> bool:
-        """Whether a variable has two values in a text, which is found faster than by its points."""
+        """Return whether a variable has two values in a text (a fast test)."""
         if name == "S" or later is None or not text:
             return True
         line = text.partition("\n")[0]
@@ -352,12 +364,14 @@ class Session:
     # ---- when
 
     def when(self, text: str) -> None:
-        """when [-] EXPRESSION: the next point, or with - the last before here, at which it holds, as V3 > 0x20 and score == 10, [0x300] or (5, 7)."""
+        """when EXPRESSION: go to the next point at which it holds.
+        when - EXPRESSION: go to the last point before here at which it holds.
+        For example: V3 > 0x20 and score == 10; [0x300] == 7; (5, 7) and frame > 2."""
         is_back, here = text.lstrip().startswith("-"), self.here.cycle
         expression = Expression(text.lstrip().removeprefix("-"), self.run)
         if self.run.is_program:
             if expression.has_pixels:
-                raise Refused("a program has no screen of CHIP-8, so no pixels: bytes are [A]")
+                raise Refused("a program has no CHIP-8 screen and so no pixels; bytes are [A]")
             found = self.search.when(expression, here, is_back)
         else:
             found = self.when_in_game(expression, here, is_back)
@@ -365,12 +379,12 @@ class Session:
             raise Refused(
                 "it held at no point before here"
                 if is_back
-                else "it holds at no point within ten minutes from here: go on by `to`, and then again"
+                else "it holds at no point within ten minutes from here; to look further, use `to`, then again"
             )
         return self.go_to(found)
 
     def when_in_game(self, expression: Expression, here: int, is_back: bool) -> int | None:
-        """The cycle of the dispatch point at which a condition holds."""
+        """Return the cycle of the dispatch point at which a condition holds."""
         for stretch in self.run.backward(here, self.run.trace) if is_back else self.run.onward(here):
             points = (
                 fields
@@ -379,11 +393,11 @@ class Session:
             )
             hits = (fields["cycle"] for fields in points if expression.value(fields))
             if found := list(hits if is_back else itertools.islice(hits, 1)):
-                return found[-1]
+                return int(found[-1])
         return None
 
-    def points(self, expression: Expression, begin: int, end: int, text: str) -> Iterator[dict]:
-        """The points of a game after a cycle and up to an end, with what an expression asks for."""
+    def points(self, expression: Expression, begin: int, end: int, text: str) -> Iterator[dict[str, Any]]:
+        """Yield the points of a game after a cycle, with what an expression needs."""
         lines = (line for line in text.splitlines() if int(line.rpartition(" ")[2]) > begin)
         found = (fields_of_point(_texts.point(line)) for line in lines)
         if not expression.asks_more:
@@ -407,7 +421,8 @@ class Session:
     # ---- pictures
 
     def frame(self, words: list[str]) -> None:
-        """frame [N]: goes to the N-th next picture and shows the screen in half blocks, two rows a line; of a program the last picture."""
+        """frame [N]: go to the N-th next picture and show the screen, two rows per line.
+        For a program the last picture is shown."""
         number = (self.here.cycle - WINDOW_END) // FRAME + count_in(words, 1)
         self.go_to(FRAME * number + WINDOW_END)
         if self.run.is_program:
@@ -421,7 +436,7 @@ class Session:
 
     @staticmethod
     def rows_of(dots: bytes) -> list[str]:
-        """The rows of a picture, without its repetitions."""
+        """Return the rows of a picture, without its repetitions."""
         lines = [f"{int.from_bytes(dots[k : k + 8], 'big'):064b}".replace("1", "#") for k in range(0, 1024, 8)]
         is_repeated = {
             size: all(len(set(lines[k : k + size])) == 1 for k in range(0, 128, size)) for size in (4, 2)
@@ -429,8 +444,9 @@ class Session:
         return lines[:: next((size for size in (4, 2) if is_repeated[size]), 2)]
 
     def picture(self, cycle: int) -> bytes:
-        """The last picture of a program up to the end of a window: what DMA takes there, or if that
-        isn't whole the last one of the run.
+        """Return the last picture of a program up to the end of a window.
+
+        It is what DMA reads there, or if that isn't whole the last picture of the run.
         """
         (lines,) = self.run.ask(max(cycle - 1820, self.run.first), ["step 2000"], cycle)
         shown_moves = (line for line in lines if _texts.instruction_place(line) or " DMA R0 " in line)
@@ -440,11 +456,11 @@ class Session:
         if len(dots) == 1024 and not switches:
             return dots
         if "--state" in self.run.options:
-            raise Refused("no picture is whole here, and of a saved state none before is known")
+            raise Refused("no picture is complete here, and a saved state has none from before")
         return self.run.make_from_start("play", cycle)[-1024:] or bytes(1024)
 
     def play(self, words: list[str]) -> None:
-        """play N [SPEED]: shows N frames one after another, at the machine's speed or that many times it."""
+        """play N [SPEED]: show N frames one after another, at the machine's speed times SPEED."""
         count, pause = count_in(words, 1), FRAME / CLOCK / count_in(words, 2)
         for _ in range(count):
             due = time.monotonic() + pause
@@ -456,9 +472,10 @@ class Session:
     # ---- keys
 
     def press(self, words: list[str]) -> None:
-        """press K [N]: holds a key from here on, for N frames if N is there. release K lets it go."""
+        """press K [N]: hold a key from here on, or for N frames.
+        release K: release it."""
         if len(words) < 2 or not re.fullmatch("[0-9A-Fa-f]", words[1]):
-            raise Refused(f"{words[0]} which key? one hexadecimal digit: {words[0]} 5")
+            raise Refused(f"{words[0]} takes one hexadecimal digit, as in: {words[0]} 5")
         key, here = words[1].upper(), self.here.cycle
         later = [event for event in self.run.script if event[0] >= here and event[2] == key]
         if later and self.is_terminal:
@@ -477,18 +494,19 @@ class Session:
     release = press
 
     def script(self, words: list[str]) -> None:
-        """script: the key events by frames. script FILE: writes them as a key script."""
+        """script: list the key events by frames.
+        script FILE: write them as a key script."""
         if len(words) > 1:
             return self.write(name_in(words), self.run.keys())
         for cycle, way, key in self.run.script:
             more = "" if cycle < self.here.cycle else ", still to come"
             self.say(f"frame {cycle // FRAME} cycle {cycle} {way} {key}{more}")
-        return None if self.run.script else self.say("no key is pressed: press K writes an event")
+        return None if self.run.script else self.say("no key is pressed; press K adds an event")
 
     # ---- marks
 
-    def snapshot(self) -> tuple[dict, bytes, str]:
-        """What `compare` compares: variables or registers, memory and screen."""
+    def snapshot(self) -> tuple[dict[str, Any], bytes, str]:
+        """Return what `compare` compares: variables or registers, memory and screen."""
         screen = [] if self.run.is_program else ["screen"]
         commands = ["mem 0000 4096", *self.looks, *screen]
         memory, *answers = self.run.ask(self.here.cycle, commands, self.here.cycle)
@@ -498,26 +516,26 @@ class Session:
         return held, _texts.dump(memory), "".join(answers[-1])
 
     def mark(self, words: list[str]) -> None:
-        """mark NAME: keeps this place under a name."""
+        """mark NAME: keep this position under a name."""
         self.marks[name_in(words)] = (self.here, self.snapshot())
         self.last_mark = self.here
         self.say(f"{words[1]} is cycle {self.here.cycle}")
 
-    def marked(self, words: list[str]) -> tuple[Moment, tuple]:
-        """The moment and the snapshot of a mark."""
+    def marked(self, words: list[str]) -> tuple[Moment, tuple[Any, ...]]:
+        """Return the moment and the snapshot of a mark."""
         if name_in(words) not in self.marks:
             there = f"there are {', '.join(self.marks)}" if self.marks else "mark NAME makes one"
-            raise Refused(f"no mark is named {words[1]}: {there}")
+            raise Refused(f"unknown mark: {words[1]} ({there})")
         return self.marks[words[1]]
 
     def goto(self, words: list[str]) -> None:
-        """goto NAME: goes to a mark, with the script that led there."""
+        """goto NAME: go to a mark, with the key script that led there."""
         moment, _ = self.marked(words)
         self.answer([f"cycle {moment.cycle}"])
         self.go(moment)
 
     def compare(self, words: list[str]) -> None:
-        """compare NAME: what differs between a mark and here."""
+        """compare NAME: print the differences between a mark and here."""
         (fields, memory, screen), (fields2, memory2, screen2) = self.marked(words)[1], self.snapshot()
         lines = [
             f"{name} {shown(value, name)} there, {shown(fields2[name], name)} here"
@@ -532,11 +550,11 @@ class Session:
             for at in changed[:64]
         ]
         if len(changed) > 64:
-            lines.append(f"{len(changed) - 64} bytes more")
+            lines.append(f"{len(changed) - 64} more bytes")
         pixels = 0 if self.run.is_program else sum(a != b for a, b in zip(screen, screen2))
         if pixels:
             lines.append(f"{pixels} pixels of the screen")
-        for line in lines or ["nothing differs"]:
+        for line in lines or ["no differences"]:
             self.say(line)
 
     # ---- files
@@ -550,21 +568,21 @@ class Session:
         self.say(f"{name}: {len(content)} bytes")
 
     def commands(self, words: list[str]) -> None:
-        """commands FILE: writes what led here as commands of `vip debug`."""
+        """commands FILE: write what led here as commands of `vip debug`."""
         text = "".join(f"{text}\n" for text, _ in self.here.entries)
         self.write(name_in(words), text.encode())
         options = " ".join(self.run.options)
         self.say(
-            f"after `script SCRIPT` this answers the same: vip debug {self.run.name} {self.here.cycle} "
+            f"after `script SCRIPT` this prints the same: vip debug {self.run.name} {self.here.cycle} "
             f"{words[1]} --keys SCRIPT {options}"
         )
 
     def save(self, words: list[str]) -> None:
-        """save FILE: the state of the machine, of a game at the last dispatch point."""
+        """save FILE: write the machine state, for a game at the last dispatch point."""
         self.write(name_in(words), self.run.make("save", self.here.cycle, self.here.cycle))
 
     def page(self, words: list[str]) -> None:
-        """page FILE: the page of `view` from the last mark, or from the start, up to here."""
+        """page FILE: write the page of `view` from the last mark or the start up to here."""
         name, content, options = "start", self.run.start, self.run.options
         if self.last_mark and self.last_mark.cycle <= self.here.cycle and not self.run.is_program:
             at = self.last_mark.cycle
@@ -581,31 +599,32 @@ class Session:
     # ---- lines
 
     def help(self, _words: list[str]) -> None:
-        """help: the commands, each short for the first that begins so; quit ends."""
+        """help: list the commands; each is short for the first that begins so.
+        quit: end the session."""
         own = (getattr(self, name) for name in NAMES if hasattr(self, name))
         for way in dict.fromkeys((self.moves, self.shows, self.before, *own)):
             self.answer([f"| {line.strip()}" for line in way.__doc__.splitlines()])
 
     def does(self, line: str) -> None:
-        """Do what a line says. What can't be done is said, and then nothing has moved."""
+        """Execute a line. If it can't be done, say so and move nothing."""
         words = line.split()
         try:
             self.do(words, line)
         except (Refused, ArithmeticError, LookupError, TypeError, ValueError, RecursionError) as why:
-            self.say(why if isinstance(why, Refused) else f"that has no meaning here: {why}", "31")
+            self.say(why if isinstance(why, Refused) else f"this can't be evaluated: {why}", "31")
         except KeyboardInterrupt:
             self.say(f"interrupted: still at cycle {self.here.cycle}", "31")
 
     def do(self, words: list[str], line: str) -> None:
-        """Do a command."""
+        """Execute a command."""
         typed = words[0]
         words[0] = next((name for name in NAMES if name.startswith(typed)), "")
         if not words[0]:
-            raise Refused(f"no command is named {typed}: help lists them")
+            raise Refused(f"unknown command: {typed} (help lists them)")
         if words[0] in OF_THE_LANGUAGE and self.run.is_program:
             raise Refused(
-                f"{words[0]} speaks of a game, and this is a program: "
-                "step, to, at, watch, regs, mem, dis and list speak of it"
+                f"{words[0]} is for games, and this is a program; for it there are "
+                "step, to, at, watch, regs, mem, dis and list"
             )
         words += ["1"] if words in (["step"], ["next"]) else []
         goes_back = r"-\d+" if words[0] in ("step", "next") else "-.+" if words[0] == "break" else "(?!)"
@@ -640,7 +659,10 @@ def complete_by(run: Replay) -> None:
 
 
 def main(words: Sequence[str], top: str) -> int:
-    """Run a session over the arguments of the command line. `top` is the debugger's own folder."""
+    """Run a session over the arguments of the command line.
+
+    `top` is the debugger's own folder.
+    """
     is_terminal = sys.stdin.isatty() and sys.stdout.isatty()
 
     def put(line: str, colour: str | None) -> None:

@@ -21,7 +21,7 @@ MOST_CYCLE = 4_000_000_000
 REACH = 600 * CLOCK  # how far ahead a command looks: ten minutes of the machine's time
 KEPT_EACH = 1 << 19  # the cycles between two kept states
 AT_ONCE = os.cpu_count() or 1
-# (calls are made in threads, since C hears no interrupt: it ends the wait)
+# (calls are made in threads, since C code can't be interrupted: an interrupt ends the wait)
 IN_THREADS = ThreadPoolExecutor(AT_ONCE)
 MOST_COMMANDS = 1 << 20  # bytes
 
@@ -70,7 +70,7 @@ def read_script(text: bytes) -> tuple[Event, ...]:
 
 
 class Source:
-    """What a source says of addresses: its names, its labels, and the line that gave each byte."""
+    """What a source says of addresses: names, labels, and the line of each byte."""
 
     def __init__(self, text: bytes, is_game: bool):
         isa = ["--chip8"] if is_game else []
@@ -84,7 +84,7 @@ class Source:
 
     @property
     def labels(self) -> dict[int, list[str]]:
-        """The labels of each address at which the source gave a byte, as `vip debug` shows them."""
+        """Return the labels at each address, as `vip debug` shows them."""
         if self._labels is None:
             places = sorted(set(self.numbers.values()))
             self._labels = {}
@@ -93,7 +93,7 @@ class Source:
         return self._labels
 
     def _labels_at(self, places: list[int]) -> dict[int, list[str]]:
-        # (at reset, and of a program with the boot latch clear, so that each address is read itself)
+        # (at reset, for a program with the boot latch clear, so that each address is read itself)
         word, start = ("code", []) if self._is_game else ("list", ["--ram"])
         commands = "".join(f"{word} {at:04X} 1\n" for at in places).encode()
         files = {"source": self._text, "commands": commands}
@@ -102,7 +102,7 @@ class Source:
         return {at: [line[:-1] for line in names] for at, names in zip(places, shown) if names}
 
     def around(self, address: int | None) -> list[str]:
-        """The line that gave an address with its neighbours, the line itself marked."""
+        """Return the line that gave an address, marked, with the lines around it."""
         number = self.lines.get(address, -9) if address is not None else -9
         return [
             f"{'>' if k == number else ' '} {k}: {self.texts[k].strip()}"
@@ -116,7 +116,7 @@ USAGE = """    ./debugger GAME [--asm] [--tall] [--keys FILE] [--state]
 
 
 class Replay:
-    """A run from its start under a key script, of which states are kept at intervals."""
+    """A run from its start under a key script; states are kept at intervals."""
 
     def __init__(self, words: Sequence[str]):
         keys = words.index("--keys") if "--keys" in words else len(words)
@@ -151,14 +151,15 @@ class Replay:
         self.script = script
 
     def keys(self) -> bytes:
-        """The key script as a text."""
+        """Return the key script as a text."""
         return "".join(f"{cycle} {way} {key}\n" for cycle, way, key in self.script).encode()
 
     # ---- calls of vip
 
     def _near(self, cycle: int) -> tuple[int, str, bytes, list[str]]:
-        """The nearest kept state at or before a cycle, or the start: its cycle, its name as a file,
-        its content and the options that it takes.
+        """Return the nearest kept state at or before a cycle, or the start.
+
+        The result is its cycle, its name as a file, its content and its options.
         """
         at = bisect.bisect_right(self._cycles, cycle)
         if not at:
@@ -167,13 +168,16 @@ class Replay:
         return self._cycles[at - 1], "state", self._states[at - 1], options
 
     def begin(self, cycle: int) -> int:
-        """The cycle of the nearest place at or before a cycle at which a call can begin."""
+        """Return the last cycle up to a given one at which a call can begin."""
         return self._near(cycle)[0]
 
     def request(
         self, verb: str, cycle: int, limit: int, more: Sequence[str] = (), commands: Iterable[str] = ()
     ) -> tuple[list[str], dict[str, bytes]]:
-        """The arguments and files of a verb for the run up to a limit, begun at or before a cycle."""
+        """Return the arguments and files of a verb for the run up to a limit.
+
+        The call begins at or before a cycle.
+        """
         _, name, content, options = self._near(cycle)
         text = "".join(f"{line}\n" for line in commands).encode()
         files = {name: content, "keys": self.keys()}
@@ -183,21 +187,24 @@ class Replay:
         return words, files
 
     def make(self, verb: str, cycle: int, limit: int) -> bytes:
-        """What a verb writes of the run up to a limit."""
+        """Return what a verb writes of the run up to a limit."""
         return IN_THREADS.submit(written, *self.request(verb, cycle, limit)).result()
 
     def make_from_start(self, verb: str, limit: int) -> bytes:
-        """What a verb writes of the run from its start up to a limit."""
+        """Return what a verb writes of the run from its start up to a limit."""
         words = [verb, "start", str(limit), "--keys", "keys", *self.options]
         return IN_THREADS.submit(written, words, {"start": self.start, "keys": self.keys()}).result()
 
     def answers(self, cycle: int, commands: Sequence[str], limit: int) -> bytes:
-        """What `vip debug` writes of commands at a cycle, without echo. Threads may call this."""
+        """Return what `vip debug` writes for commands at a cycle, without echo.
+
+        Threads may call this.
+        """
         words, files = self.request("debug", cycle, max(limit, cycle), (), [f"to {cycle}", *commands])
         return written(words, files).partition(b"\n")[2]
 
     def ask(self, cycle: int, commands: Sequence[str], limit: int) -> list[list[str]]:
-        """The answer of each command of `vip debug` at a cycle, with the labels of its lines."""
+        """Return the answer of each command of `vip debug` at a cycle, with labels."""
         words, files = self.request("debug", cycle, max(limit, cycle), ["--echo"], [f"to {cycle}", *commands])
         out = IN_THREADS.submit(written, words, files).result()
         found = [lines for _, lines in _texts.answers(out)][1:]
@@ -207,7 +214,7 @@ class Replay:
         return found
 
     def trace(self, begin: int, end: int) -> str:
-        """The trace of a stretch of a game, which may begin before it."""
+        """Return the trace of a stretch of a game; it may begin before the stretch."""
         return "" if self.is_program else written(*self.request("trace", begin, end, ["--at"])).decode()
 
     # ---- labels
@@ -215,7 +222,7 @@ class Replay:
     def _labelled(
         self, labels: dict[int, list[str]], command: str, lines: list[str], cycle: int
     ) -> list[str]:
-        """The lines of an answer, with those of the labels before each instruction or opcode."""
+        """Return the lines of an answer, with labels before instructions or opcodes."""
         word = command.split()[0]
         shows = ("list", "code") if not self.is_program else ("list", "step", "watch")
         if word not in shows:
@@ -234,7 +241,7 @@ class Replay:
         return out
 
     def _settle(self, cycles: list[int]) -> None:
-        """Learn at which of these cycles, which rise, the boot latch is clear, by few calls."""
+        """Find out at which of these rising cycles the boot latch is clear."""
         if cycles and not self._is_latched(cycles[-1]):
             low, high = 0, len(cycles) - 1
             while low < high:
@@ -242,7 +249,7 @@ class Replay:
                 low, high = (middle + 1, high) if self._is_latched(cycles[middle]) else (low, middle)
 
     def _read_from(self, address: int, cycle: int) -> int:
-        """The address from which a program reads: the ROM's while the boot latch is set."""
+        """Return the address that is read: the ROM's while the boot latch is set."""
         return address | 0x8000 if self.is_program and self._is_latched(cycle) else address
 
     def _is_latched(self, cycle: int) -> bool:
@@ -258,7 +265,7 @@ class Replay:
         return cycle <= self._latched
 
     def latched_up_to(self, limit: int) -> int:
-        """The last cycle up to a limit at which the boot latch is set, or -1 if it never is."""
+        """Return the last cycle up to a limit at which the boot latch is set, or -1."""
         low, high = -1, 1
         while high < limit and self._is_latched(high):
             low, high = high, 4 * high
@@ -271,7 +278,7 @@ class Replay:
     # ---- states
 
     def keep(self, cycle: int) -> None:
-        """Keep states up to a cycle, at intervals, as far as the run has points there."""
+        """Keep states up to a cycle, at intervals, if the run has points there."""
         place = self._cycles[-1] if self._cycles else self.first
         while cycle - place > KEPT_EACH:
             place += KEPT_EACH
@@ -287,8 +294,10 @@ class Replay:
     # ---- stretches of a search
 
     def backward(self, end: int, ask: Callable[[int, int], str]) -> Iterator[tuple[int, int, str]]:
-        """Stretches of a game's run before a cycle, the last one first, each longer than the one
-        after it, with what is asked of it: of several at once.
+        """Yield stretches of a game's run before a cycle, the last one first.
+
+        Each is longer than the one after it and comes with what is asked of it; several are
+        asked at once.
         """
         size, first = 1 << 12, self.first if "--state" in self.options else -1
         ahead: list[tuple[int, int, Future[str]]] = []
@@ -301,8 +310,9 @@ class Replay:
             yield begin, stop, answer.result()
 
     def onward(self, begin: int) -> Iterator[tuple[int, int, str]]:
-        """Stretches of a game's run after a cycle, ten minutes in all, with their traces. The states
-        of those that were gone through are kept.
+        """Yield stretches of a game's run after a cycle, ten minutes in all.
+
+        Each comes with its trace. The states of finished stretches are kept.
         """
         size, most = 1 << 19, min(MOST_CYCLE, begin + REACH)
         while begin < most:

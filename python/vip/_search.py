@@ -10,7 +10,7 @@ from __future__ import annotations
 import ast
 import re
 from types import CodeType
-from typing import Iterable, Iterator, NamedTuple, Sequence
+from typing import Any, Iterable, Iterator, NamedTuple, Sequence
 
 from . import _texts
 from ._replay import FRAME, IN_THREADS, MOST_CYCLE, REACH, Refused, Replay
@@ -20,9 +20,9 @@ NAMES_OF_REGISTERS = tuple(f"R{k:X}" for k in range(16))
 OF_PROCESSOR = ("P", "X", "D", "DF", "Q", "IE", "T", "IDL")
 
 
-def fields_of_registers(registers: Registers) -> dict:
-    """The registers by their names, with the cycle and the frame."""
-    named: dict = dict(zip(("cycle", *OF_PROCESSOR), registers[:9]))
+def fields_of_registers(registers: Registers) -> dict[str, Any]:
+    """Return the registers by their names, with the cycle and the frame."""
+    named: dict[str, Any] = dict(zip(("cycle", *OF_PROCESSOR), registers[:9]))
     return named | {"frame": registers.cycle // FRAME} | dict(zip(NAMES_OF_REGISTERS, registers.r))
 
 
@@ -30,8 +30,10 @@ def fields_of_registers(registers: Registers) -> dict:
 
 
 class Expression(ast.NodeTransformer):
-    """A condition over a point: names, variables, the processor's registers, bytes `[A]`, pixels
-    `(x, y)`, cycle and frame.
+    """A condition over a point.
+
+    It may use names, variables, the processor's registers, bytes `[A]`, pixels `(x, y)`,
+    the cycle and the frame.
     """
 
     TAKEN = (
@@ -75,9 +77,10 @@ class Expression(ast.NodeTransformer):
             raise ValueError
         return self.generic_visit(node)  # type: ignore[return-value]
 
-    def value(self, fields: dict, code: CodeType | None = None) -> int:
-        """The value at a point with these variables, registers, bytes and screen. The source's
-        names win.
+    def value(self, fields: dict[str, Any], code: CodeType | None = None) -> int:
+        """Return the value at a point with these variables, registers and bytes.
+
+        Names of the source win over others.
         """
         names = {}
         if self.source:
@@ -89,20 +92,21 @@ class Expression(ast.NodeTransformer):
         }
         scope = {**fields, **names, **calls}
         try:
-            return eval(code or self.code, {"__builtins__": {}}, scope)  # pylint: disable=eval-used
+            return int(eval(code or self.code, {"__builtins__": {}}, scope))  # pylint: disable=eval-used
         except NameError as why:
             raise Refused(f"{why} here" + ("" if self.source else ": names of a source need --asm")) from None
 
-    def asked(self, fields: dict) -> tuple[list[int], list[str]]:
-        """The addresses of the bytes that it asks for at a point, and the commands that show them,
-        the registers and the screen.
+    def asked(self, fields: dict[str, Any]) -> tuple[list[int], list[str]]:
+        """Return the addresses of the bytes that it asks for at a point, and commands.
+
+        The commands show the bytes, the registers and the screen.
         """
         addresses = sorted({self.value(fields, code) & 0xFFFF for code, _ in self._addresses})
         screen = ["screen"] if self.has_pixels else []
         return addresses, ["regs", *(f"mem {at:04X} 1" for at in addresses), *screen]
 
     def constant_addresses(self) -> list[int] | None:
-        """The addresses of its bytes, or None if one hangs on a register."""
+        """Return the addresses of its bytes, or None if one depends on a register."""
         known = set(self.source.numbers) if self.source else set()
         if any(names - known for _, names in self._addresses):
             return None
@@ -119,17 +123,19 @@ _BY_SIGNALS = ("R0", "P", "X", "T", "IE", "IDL")
 
 
 class Executed(NamedTuple):
-    """The instructions that a run executed up to a cycle: the opcode at each address, or None if
-    bytes there have changed.
+    """The instructions that a run executed up to a cycle.
+
+    For each address it has the opcode, or None if bytes there have changed.
     """
 
     limit: int
-    script: tuple
+    script: tuple[Any, ...]
     opcodes: dict[int, int | None]
 
     def changing(self, name: str) -> list[int] | None:
-        """The addresses of the instructions that may change a register of the processor, or None if
-        an interrupt or DMA may, or nearly every instruction does.
+        """Return the addresses of the instructions that may change a register.
+
+        The result is None if an interrupt or DMA may change it, or nearly every instruction.
         """
         known: set[int | None] = set(self.opcodes.values())
         if name in ("D", "DF") or (known & {None, _DISPLAY_ON} and name in _BY_SIGNALS):
@@ -139,7 +145,7 @@ class Executed(NamedTuple):
 
     @staticmethod
     def changers(name: str, known: set[int | None]) -> set[int]:
-        """The opcodes that may change a register, if these are executed."""
+        """Return the opcodes that may change a register, if these are executed."""
         seps, sexes = {0xD0 + n for n in range(16)}, {0xE0 + n for n in range(16)}
         others = {
             "P": seps | _RETURNS,
@@ -165,8 +171,10 @@ class Executed(NamedTuple):
 
 
 class Event(NamedTuple):
-    """An instruction that was executed, with the registers before and after it, and the bytes that
-    it changed by their addresses.
+    """An instruction that was executed.
+
+    It has the registers before and after it, and the bytes that it changed by their
+    addresses.
     """
 
     before: Registers
@@ -188,7 +196,7 @@ MOST_PLACES = 12  # addresses that a search looks at one by one, without a profi
 
 
 class NotReached(Exception):
-    """`at` passes over an instruction that follows itself."""
+    """An instruction that `at` can't reach, since it follows itself."""
 
 
 class ProgramSearch:
@@ -197,7 +205,7 @@ class ProgramSearch:
     def __init__(self, run: Replay):
         self.run = run
         self._executed: Executed | None = None
-        self._quiet: dict[tuple, set[int] | None] = {}
+        self._quiet: dict[tuple[Any, ...], set[int] | None] = {}
 
     def _answers(self, cycle: int, commands: Sequence[str], limit: int) -> bytes:
         return IN_THREADS.submit(self.run.answers, cycle, commands, limit).result()
@@ -205,7 +213,7 @@ class ProgramSearch:
     # ---- moves, one by one
 
     def moves(self, begin: int, end: int) -> list[Registers]:
-        """The registers at a place, and after each move from there up to another place."""
+        """Return the registers at a place, and after each move up to another place."""
         found: list[Registers] = []
         while True:
             count = max(1, min(end - begin, NEAR))
@@ -220,8 +228,9 @@ class ProgramSearch:
     # ---- instructions
 
     def executed(self, limit: int) -> Executed | None:
-        """The instructions up to a cycle or a later one; None of a game, and of a run from a saved
-        state.
+        """Return the instructions up to a cycle or a later one.
+
+        The result is None for a game, and for a run from a saved state.
         """
         if not self.run.is_program or "--state" in self.run.options:
             return None
@@ -231,8 +240,10 @@ class ProgramSearch:
         return kept
 
     def _rows(self, limit: int) -> dict[int, tuple[bytes, int]]:
-        """Of each address at which an instruction began up to a cycle its first bytes, and how many
-        instructions began there.
+        """Return, for each address of an instruction, its bytes and a count.
+
+        These are the first bytes there, and the number of instructions that began there up
+        to a cycle.
         """
         rows = _ROW.findall(self.run.make_from_start("profile", limit))
         return {int(pc, 16): (bytes.fromhex(code.decode()), int(count)) for pc, code, count in rows}
@@ -255,8 +266,9 @@ class ProgramSearch:
         }
 
     def _changed(self, places: set[int], begin: int, end: int, most: int) -> set[int] | None:
-        """Those of some addresses of RAM at which a byte changes from a cycle up to another one, or
-        None if these are more than so many.
+        """Return the addresses among these at which a byte changes between two cycles.
+
+        The result is None if there are more of them than the limit.
         """
         changed: set[int] = set()
         waiting = [(min(places), max(places))] if places else []
@@ -282,8 +294,10 @@ class ProgramSearch:
         return changed
 
     def changing(self, names: Iterable[str], begin: int, end: int) -> set[int] | None:
-        """The addresses of the instructions that may change some registers from a cycle up to another
-        one, or None if other moves may, or nearly all instructions do.
+        """Return the addresses of the instructions that may change some registers.
+
+        Only instructions between two cycles count. The result is None if other moves may
+        change them, or nearly all instructions do.
         """
         names = set(names)
         if names & {"D", "DF"} or not self.run.is_program:
@@ -296,8 +310,10 @@ class ProgramSearch:
         return None if None in some else {at for each in some for at in each or ()}
 
     def _by_bytes(self, names: set[str], begin: int, end: int) -> set[int] | None:
-        """The same, by what memory has: this serves if no byte of it is an instruction that sets X
-        and P to anything or turns the display on, and if what changes in it isn't executed.
+        """Return the same by the contents of memory.
+
+        This works if no byte is an instruction that sets X and P to anything or turns the
+        display on, and if bytes that change aren't executed.
         """
         state = self.run.make("save", begin, begin)
         if state[5] & 3 or names & {"IDL"}:
@@ -323,7 +339,10 @@ class ProgramSearch:
         return None if changed is None else places - changed
 
     def _data(self, place: int, begin: int, end: int) -> set[int] | None:
-        """The addresses of RAM at which a byte changes, or None if they are many or one is executed."""
+        """Return the addresses of RAM at which a byte changes.
+
+        The result is None if there are many, or if one of them is executed.
+        """
         changed = self._changed(set(range(4096)), begin, end, MOST_PLACES)
         if changed is None or place in changed:
             return None
@@ -331,8 +350,9 @@ class ProgramSearch:
         return None if any(task.result().startswith(b"cycle") for task in tasks) else changed
 
     def events(self, address: int, begin: int, end: int) -> list[Event]:
-        """The executions of the instruction at an address that begin after a cycle and up to
-        another one.
+        """Yield the executions of the instruction at an address between two cycles.
+
+        They begin after the first cycle and up to the second one.
         """
         found: list[Event] = []
         count, limit = 1, min(end + LONGEST, MOST_CYCLE)
@@ -351,8 +371,10 @@ class ProgramSearch:
             begin, count = part[-1].before.cycle, min(16 * count, MOST_AT_ONCE)
 
     def writes(self, address: int, begin: int, end: int) -> list[Event]:
-        """The instructions that changed what is read at an address, ended after a cycle and up to
-        another one. One that only cleared the boot latch changed no byte.
+        """Yield the instructions that changed what is read at an address.
+
+        They ended after a cycle and up to another one. An instruction that only cleared the
+        boot latch changed no byte.
         """
         found: list[Event] = []
         count = 1
@@ -371,7 +393,7 @@ class ProgramSearch:
     # ---- windows
 
     def _back(self, end: int, grows: bool) -> Iterator[tuple[int, int]]:
-        """Windows before a cycle, the last one first."""
+        """Yield windows before a cycle, the last one first."""
         size = NEAR
         while end > self.run.first:
             begin = max(end - size, self.run.first)
@@ -380,7 +402,7 @@ class ProgramSearch:
 
     @staticmethod
     def _on(begin: int, grows: bool) -> Iterator[tuple[int, int]]:
-        """Windows after a cycle, ten minutes in all."""
+        """Yield windows after a cycle, ten minutes in all."""
         most, size = min(MOST_CYCLE, begin + REACH), NEAR
         while begin < most:
             end = min(begin + size, most)
@@ -390,7 +412,7 @@ class ProgramSearch:
     # ---- the last change
 
     def last_register(self, name: str, here: int) -> tuple[Registers, Registers] | None:
-        """The registers before and after the last move before a cycle that changed one."""
+        """Return the registers before and after the last move that changed one."""
         addresses: set[int] | None = None
         for begin, end in self._back(here, grows=False):
             found = self._changes_by_moves(name, begin, end)
@@ -408,7 +430,7 @@ class ProgramSearch:
         return next(((a, b) for a, b in pairs if register_in(a, name) != register_in(b, name)), None)
 
     def _last_far(self, name: str, addresses: set[int], here: int) -> tuple[Registers, Registers] | None:
-        """The last change before a cycle, by these instructions alone."""
+        """Return the last change before a cycle by these instructions."""
         for begin, end in self._back(here, grows=True):
             tasks = [IN_THREADS.submit(self.events, at, begin, end) for at in addresses]
             try:
@@ -433,7 +455,7 @@ class ProgramSearch:
         return None
 
     def last_write(self, address: int, here: int) -> Event | None:
-        """The last instruction before a cycle that changed a byte."""
+        """Return the last instruction before a cycle that changed a byte."""
         for begin, end in self._back(here, grows=True):
             made = [one for one in IN_THREADS.submit(self.writes, address, begin, end).result() if one.bytes]
             if made:
@@ -443,7 +465,7 @@ class ProgramSearch:
     # ---- conditions
 
     def when(self, expression: Expression, here: int, is_back: bool) -> int | None:
-        """The cycle of the next point, or of the last one before here, at which it holds."""
+        """Return the cycle of the next or the last point at which it holds."""
         changers: Changers | None = None
         window = 0
         windows = self._back if is_back else self._on
@@ -470,7 +492,7 @@ class ProgramSearch:
             grows = True
 
     @staticmethod
-    def _hit(expression: Expression, points: Iterator, here: int, is_back: bool) -> int | None:
+    def _hit(expression: Expression, points: Iterator[tuple[int, dict[str, Any]]], here: int, is_back: bool) -> int | None:
         hits = (
             cycle
             for cycle, fields in points
@@ -478,13 +500,13 @@ class ProgramSearch:
         )
         if not is_back:
             return next(hits, None)
-        last = None
+        last: int | None = None
         for last in hits:
             pass
         return last
 
     def _changers(self, expression: Expression, begin: int, end: int) -> Changers | None:
-        """What may change what a condition asks for, or None if that isn't known."""
+        """Return what may change a condition, or None if that isn't known."""
         numbers = set(expression.source.numbers) if expression.source else set()
         asked = expression.names - numbers - {"byte"}
         places = expression.constant_addresses()
@@ -497,8 +519,8 @@ class ProgramSearch:
 
     def _between(
         self, expression: Expression, changers: Changers, begin: int, end: int
-    ) -> Iterator[tuple[int, dict]]:
-        """The first and the last point of each stretch of a window in which nothing changes."""
+    ) -> Iterator[tuple[int, dict[str, Any]]]:
+        """Yield the first and the last point of each stretch without changes."""
         instructions, places = changers
         tasks = [IN_THREADS.submit(self.events, at, begin, end) for at in instructions]
         tasks += [IN_THREADS.submit(self.writes, at, begin, end) for at in places]
@@ -523,8 +545,8 @@ class ProgramSearch:
             yield event.after.cycle, fields
         yield end, fields  # (`to` leads to the last point up to there)
 
-    def _every(self, expression: Expression, begin: int, end: int) -> Iterator[tuple[int, dict]]:
-        """All points of a window, with what a condition asks for."""
+    def _every(self, expression: Expression, begin: int, end: int) -> Iterator[tuple[int, dict[str, Any]]]:
+        """Yield all points of a window, with what a condition asks for."""
         while begin < end:
             stop = min(begin + NEAR, end)
             moves = self.moves(begin, stop)
@@ -541,14 +563,14 @@ class ProgramSearch:
 
 
 class Changers(NamedTuple):
-    """The addresses of the instructions, and of the bytes, by which a condition may change."""
+    """The addresses of the instructions and bytes by which a condition may change."""
 
     instructions: set[int]
     bytes: list[int]
 
 
 def register_in(registers: Registers, name: str) -> int:
-    """The value of a register of the processor by its name."""
+    """Return the value of a register of the processor by its name."""
     if name in NAMES_OF_REGISTERS:
         return registers.r[int(name[1], 16)]
-    return getattr(registers, "idle" if name == "IDL" else name.lower())
+    return int(getattr(registers, "idle" if name == "IDL" else name.lower()))

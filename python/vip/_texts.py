@@ -1,16 +1,16 @@
-"""Readers of the texts that `vip` writes: one for each kind of line, and none anywhere else."""
+"""Readers of the texts that `vip` writes, one for each kind of line."""
 from __future__ import annotations
 
 import re
-from typing import Iterator, NamedTuple
+from typing import Iterator, List, NamedTuple
 
 
 class Point(NamedTuple):
-    """A dispatch point: the state of the language when the opcode at pc is about to be fetched.
+    """A dispatch point: the state when the opcode at pc is about to be fetched.
 
-    The opcode is None if it doesn't lie in game memory. The timers count frames; the stack has
-    addresses, the oldest first; `ticks` counts the timer ticks modulo 65536, `cycle` is the machine
-    cycle. Both are 0 if the line doesn't have them.
+    The opcode is None if it isn't in game memory. The timers count frames. The stack has
+    addresses, the oldest first. `ticks` counts the timer ticks modulo 65536, and `cycle` is
+    the machine cycle; both are 0 if the line doesn't have them.
     """
 
     pc: int
@@ -26,7 +26,7 @@ class Point(NamedTuple):
 
 
 def point(line: str) -> Point:
-    """Read a line of a game's trace, with or without its ticks, its cycle and the opcode's words."""
+    """Read a line of a game's trace, with or without ticks, cycle and mnemonic."""
     words = line.partition("  ; ")[0].split()
     end = words.index("N") if "N" in words else len(words)
     return Point(
@@ -103,7 +103,7 @@ class Idle(NamedTuple):
     """A number of cycles in which the processor idles."""
 
     cycle: int
-    count: int
+    count: int  # type: ignore[assignment]
 
 
 class Interrupt(NamedTuple):
@@ -141,7 +141,7 @@ def move(line: str) -> Instruction | Idle | Interrupt | Dma:
 
 
 def instruction_place(line: str) -> tuple[int, int] | None:
-    """Return the cycle and the address of an instruction's line in a program's trace, or None."""
+    """Return the cycle and the address of an instruction's line, or None."""
     found = re.match(r"(?=.{10} )( *\d+) ([0-9A-F]{4}) [0-9A-F]{2}", line)
     return (int(found[1]), int(found[2], 16)) if found else None
 
@@ -158,8 +158,10 @@ def answers(text: bytes) -> Iterator[tuple[str, list[str]]]:
 
 
 class Step(NamedTuple):
-    """A row of a profile: the address at which its steps began, the opcode or the bytes or None,
-    how many they are, and the sum, the least and the most of their cycles.
+    """A row of a profile.
+
+    It has the address at which its steps began, the opcode or the bytes or None, the
+    number of steps, and the sum, the least and the most of their cycles.
     """
 
     pc: int
@@ -178,8 +180,10 @@ def step(line: str) -> Step:
 
 
 class Listing(NamedTuple):
-    """A listing: the text of each line by its number, the line that gave each byte by its address,
-    and the names with their values, of which some are registers.
+    """A listing.
+
+    It has the text of each line by its number, the line that gave each byte by its
+    address, and the names with their values, some of which are registers.
     """
 
     texts: dict[int, str]
@@ -190,12 +194,12 @@ class Listing(NamedTuple):
 
 def listing(text: str) -> Listing:
     """Read a listing."""
-    # (each line begins with its number or with blanks, so the first empty one comes before the names)
+    # (each line begins with its number or with blanks, so the first empty line ends them)
     rows, _, names = text.partition("\n\n") if not text.startswith("\n") else ("", "", text[1:])
     texts: dict[int, str] = {}
     lines: dict[int, int] = {}
     number = 0
-    for row in rows.split("\n") if rows else []:
+    for row in rows.rstrip("\n").split("\n") if rows else []:
         found = re.fullmatch(r" *(\d+) (.{4}) ([0-9A-F ]{6}) (.*)", row)
         if found:
             number = int(found[1])
@@ -216,8 +220,10 @@ def listing(text: str) -> Listing:
 
 
 class Fault(NamedTuple):
-    """A fault of a source: line and column from 1, its cause by name, the offending text, and a
-    suggestion or ''. The cause of a note is 'note'.
+    """A fault of a source.
+
+    It has line and column from 1, its cause by name, the offending text, and a suggestion
+    or ''. The cause of a note is 'note'.
     """
 
     line: int
@@ -226,8 +232,13 @@ class Fault(NamedTuple):
     culprit: str
     remedy: str
 
+    def __str__(self) -> str:
+        """Return it as `check` prints it, without the name of the file."""
+        suggestion = f" ({self.remedy})" if self.remedy else ""
+        return f"{self.line}:{self.column}: {self.cause}: {self.culprit}{suggestion}"
 
-class Faults(list):
+
+class Faults(List[Fault]):
     """The faults and notes of a source, in order.
 
     `waiting` is how many other lines can only be judged once these are mended; `is_octo` says
@@ -244,7 +255,7 @@ def _shown(line: bytes) -> list[str]:
 
 
 def _parted(text: str, cause: str, line: bytes) -> tuple[str, str]:
-    """Part an offending text, which begins this part of its line, from the suggestion after it."""
+    """Split an offending text, at the start of this part, from its suggestion."""
     most, culprit = "", ""
     for shown in ["", *_shown(line)]:
         culprit += shown
@@ -253,7 +264,7 @@ def _parted(text: str, cause: str, line: bytes) -> tuple[str, str]:
         rest = text[len(culprit) :]
         if not rest or (rest.startswith(" (") and rest.endswith(")")):
             most = culprit
-            # (a mnemonic has no blank, a comment that looks like an instruction has one suggestion)
+            # (a mnemonic has no space; a comment like an instruction has one suggestion)
             if rest and (cause == "UnknownMnemonic" or rest.count(" (") == 1 and cause == "note"):
                 break
     return most, text[len(most) + 2 : -1]
@@ -270,7 +281,7 @@ def faults(text: str, source: bytes, name: str = "s") -> Faults:
             culprit, remedy = _parted(rest, place[3], lines[line - 1][column - 1 :])
             found.append(Fault(line, column, place[3], culprit, remedy))
             continue
-        more = re.match(r" (\d+) lines? more ", row[len(name) + 1 :])
+        more = re.match(r" (\d+) more lines? ", row[len(name) + 1 :])
         if more:
             found.waiting = int(more[1])
         elif row[len(name) + 1 :].startswith(" this looks like Octo"):
