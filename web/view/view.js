@@ -1,6 +1,7 @@
 /** The page of a run: its lines, its pictures, its keys, and its source. */
 
 import { BEGIN, BYTES, END, FRAME, KEYS, LINES, MOST, HEAD, PICTURE, download, fromBase64, get, group, hex, make, many, pipe, quote, readKeys, refuse, setSlider } from '../common/base.js';
+import { fragmentOf } from '../common/link.js';
 import { dotsAsText, drawDots, fit } from '../common/picture.js';
 
 // The machine cycles of a raster line, and the number of the first one that is shown.
@@ -10,7 +11,7 @@ const LAST = Math.floor(MOST / FRAME);
 // How many lines are listed, beside a source too, and how many columns the plot has at most.
 const ROWS = 27, ROWS_BESIDE = 15, COLUMNS = 1000, BYTES_SHOWN = 8;
 
-const run = { words: '', trace: null, film: null, keys: null, listing: null, memory: null, first: 0, begin: 0, frames: 1, pictures: null, counts: null, isSure: true };
+const run = { words: '', game: null, trace: null, film: null, keys: null, listing: null, memory: null, first: 0, begin: 0, frames: 1, pictures: null, counts: null, isSure: true };
 const place = { line: 0, frame: 0, cycle: 0 };
 
 // (of a text that is too long for it a browser may make an empty one)
@@ -465,7 +466,7 @@ async function take(files) {
     if (found.film || !found.trace) throw fault;
     relate(found, given);
   }
-  run.words = '';
+  Object.assign(run, { words: '', game: null });
   openRun();
 }
 
@@ -485,14 +486,24 @@ async function openOwn() {
   const keys = get('run-keys') && readKeys(await textOf('run-keys'), 'The key script');
   const listing = get('run-listing') && readListing(await textOf('run-listing'), 'The listing');
   relate({ trace, film, keys, listing }, frameOf(+await textOf('run-from')));
+  // (what the player needs: its page, and what was run)
+  run.game = get('run-game') && { bytes: await bytesOf('run-game'), about: (await textOf('run-player')).split('\n') };
   openRun();
+}
+
+// The player's page with this run at the place that is shown. On a page from a disk it is the one that ./view found,
+// else one beside this page.
+async function playerLink() {
+  const { bytes, about: [kind, name, page] } = run.game, isTall = kind === 'tall';
+  const fragment = await fragmentOf({ kind: isTall ? 'game' : kind, name, bytes, isTall }, run.keys?.text ?? '', place.cycle);
+  return `${(location.protocol === 'file:' && page) || 'play.html'}#${fragment}`;
 }
 
 // Shows a run that was read.
 function openRun() {
   const { trace, film, keys, words, first } = run, steps = run.counts?.reduce((sum, count) => sum + count, 0) ?? trace?.count;
   const isShown = { viewer: trace || film, asks: !trace || !film, begins: film && !words && trace?.isGame !== false, plot: run.counts,
-    'save-trace': trace, 'save-film': film, 'save-keys': keys };
+    'save-trace': trace, 'save-film': film, 'save-keys': keys, 'play-here': run.game };
   for (const id of Object.keys(isShown)) get(id).toggleAttribute('hidden', !isShown[id]);
   for (const part of document.querySelectorAll('.display, #picture, #frame-is, #text, #plot, #plot-is')) part.toggleAttribute('hidden', !hasDisplay());
   // (a program without a display has the picture's space for its registers)
@@ -530,6 +541,7 @@ const ACTIONS = {
   'first-frame': () => goFrame(run.begin), 'frame-back': () => goFrame(place.frame - 1), 'frame-on': () => goFrame(place.frame + 1),
   'last-frame': () => goFrame(run.frames), 'first-line': () => goLine(0), 'line-back': () => goLine(place.line - 1), 'line-on': () => goLine(place.line + 1),
   'last-line': () => goLine(lineCount()), 'same-on': () => goPc(pcHere(), 1), play,
+  'play-here': () => attempt(playerLink().then(link => { open(link, '_blank'); })),
   'save-trace': () => download('run.trace', run.trace.text), 'save-film': () => download('run.pbm', run.film.bytes), 'save-keys': () => download('run.keys', run.keys.text),
 };
 const PRESSED = {
