@@ -1,13 +1,13 @@
-; A ball that runs over the screen. It turns round at the edges, with a tone of
-; three ticks. The game goes on for ever.
+; A ball crosses the screen and turns at the edges, with a tone of three ticks.
+; The game never ends.
 
-x:      EQU V0                  ; the place of the ball
+x:      EQU V0                  ; the position of the ball
 y:      EQU V1
-dx:     EQU V2                  ; how far it goes in a step
+dx:     EQU V2                  ; how far it moves in a step
 dy:     EQU V3
 time:   EQU V4
 tone:   EQU V5
-zero:   EQU V6                  ; stays 0
+zero:   EQU V6                  ; always 0
 
         LD x, 20
         LD y, 10
@@ -16,13 +16,13 @@ zero:   EQU V6                  ; stays 0
         LD tone, 3
         LD I, ball
 
-step:   DRW x, y, 4             ; the ball is lit,
+step:   DRW x, y, 4             ; draw the ball
         LD time, 2
         LD DT, time
-wait:   LD time, DT             ; stays until the timer is at 0,
+wait:   LD time, DT             ; wait until the timer is 0
         SE time, 0
         JP wait
-        DRW x, y, 4             ; and is put out
+        DRW x, y, 4             ; erase the ball
         ADD x, dx
         ADD y, dy
         SE x, 60                ; at 60 skip the test of 0

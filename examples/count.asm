@@ -1,5 +1,5 @@
 sum:    EQU VA
         LD sum, 2
         ADD sum, 12
-        JP end                  ; 0000 lies behind the game, and stops it
+        JP end                  ; the 0000 after the game stops it
 end:

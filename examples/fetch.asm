@@ -1,11 +1,12 @@
-; The fetch of the CHIP-8 interpreter, usual edition, as it stands in the ROM from 8027 on (crates/chip8_source/src/fetch.rt), with the names that
-; it takes from the rest of the source. It is entered at `fetch` with P = 4, reads the opcode at R5 and goes to its routine by SEP R3; where R5
-; isn't in game memory it goes to the stop.
+; The fetch of the CHIP-8 interpreter with 32 rows, at its address 8027 in the ROM, with the
+; names of the rest of its source (crates/chip8_source/src/fetch.rt). It is entered at `fetch`
+; with P = 4, reads the opcode at R5 and goes to its routine by SEP R3. If R5 isn't in game
+; memory, it goes to the stop.
 FIRST:          EQU     0x0200          ; the first address of game memory
 END:            EQU     0x0EA0          ; the first address past it
 VARS:           EQU     0x0EF0          ; V0 to VF
 FETCH_OUTSIDE:  EQU     3               ; the number of a stop
-stopped:        EQU     0x80F6          ; where a stop goes on
+stopped:        EQU     0x80F6          ; the code of all stops
 table:          EQU     0x8064          ; the dispatch table
 
                 ORG     0x8027

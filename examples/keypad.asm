@@ -1,6 +1,6 @@
-; Shows the keypad: a box for each key, which is filled while the key is held
-; down. A program for the bare board in RAM, with an interrupt routine of its
-; own. Each row of the screen is shown in four raster lines.
+; Shows the keypad: a box for each key, filled while the key is down. This program
+; runs on the bare board in RAM, with its own interrupt routine. It shows each row of
+; the screen in four raster lines.
 
 screen: EQU 0x0200          ; 32 rows of 8 bytes
 empty:  EQU 0x42
@@ -9,8 +9,8 @@ stack:  EQU 0x01FF
 
         ORG 0x0000
 
-; R1 is the interrupt routine, R2 the stack, and R3 becomes the program counter,
-; so that R0 is free for DMA.
+; R1 is the interrupt routine, R2 the stack. R3 becomes the program counter, since DMA
+; uses R0.
         LDI >show
         PHI R1
         LDI <show
@@ -25,8 +25,8 @@ stack:  EQU 0x01FF
         PLO R3
         SEP R3
 
-; R4.0 is the key, R5 points to its box, R6.0 counts rows, R7.0 is what stands
-; between the sides, and R8 points to the places of the boxes.
+; R4.0 is the key, R5 points to its box, R6.0 counts rows, R7.0 fills the space
+; between the sides, and R8 points to the positions of the boxes.
 main:   SEX R2
         INP 1               ; the display is on
 keys:   LDI >boxes
@@ -41,10 +41,10 @@ key:    LDI >screen
         PLO R5
         GLO R4
         STR R2
-        OUT 2               ; the key is selected
+        OUT 2               ; select the key
         DEC R2
         LDI full
-        B3 draw             ; it is held down
+        B3 draw             ; the key is down
         LDI empty
 draw:   PLO R7
         LDI full            ; the upper edge
@@ -70,7 +70,7 @@ side:   GLO R5              ; the next row
         BNZ key
         BR keys
 
-; Where each box begins on the screen, for the keys as they lie on the keypad:
+; The address of each box on the screen, for this keypad:
 ;   1 2 3 C
 ;   4 5 6 D
 ;   7 8 9 E
@@ -82,13 +82,13 @@ boxes:  DB 0xCB             ; 0
         DB 0xCA,0xCC        ; A, B
         DB 0x0D,0x4D,0x8D,0xCD
 
-; The interrupt comes 30 cycles before the first DMA cycle. The routine takes
-; all but four of them to set R0, and then goes row by row: in each raster line
-; there is time for three instructions, which take R0 back to the row.
+; The interrupt comes 30 cycles before the first DMA cycle. The routine uses all but
+; four of them to set R0. Then each raster line leaves time for three instructions,
+; which reset R0 to the start of the row.
         PAGE
 return: LDXA
         RET
-show:   NOP                 ; three cycles, so that the DMA cycles come between
+show:   NOP                 ; three cycles: DMA cycles then come between
         DEC R2              ; instructions
         SAV
         DEC R2
@@ -102,7 +102,7 @@ show:   NOP                 ; three cycles, so that the DMA cycles come between
         SEX R2
 row:    GLO R0
         SEX R2
-        DEC R0              ; behind the first line of the row
+        DEC R0              ; after the first line of the row
         PLO R0
         SEX R2
         DEC R0              ; the second
@@ -111,5 +111,5 @@ row:    GLO R0
         DEC R0              ; the third
         PLO R0
         SEX R2
-        BN1 row             ; the fourth; EF1 comes with the last row
+        BN1 row             ; the fourth; EF1 is active in the last row
         BR return

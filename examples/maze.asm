@@ -1,15 +1,15 @@
-; Fills the screen with diagonals by chance, 16 by 8 of them, which make a maze.
-; Then it stays as it is.
+; Fills the screen with 16 by 8 random diagonals, which make a maze. Then the screen
+; is unchanged.
 
-x:      EQU V0                  ; the place of a diagonal
+x:      EQU V0                  ; the position of a diagonal
 y:      EQU V1
-chance: EQU V2                  ; by chance 0 or 64
+chance: EQU V2                  ; 0 or 64, at random
 
         LD y, 0
 row:    LD x, 0
 place:  LD I, down
-        RND chance, 0x40        ; a random byte, of which one bit is kept
-        SE chance, 0            ; skip where it is 0
+        RND chance, 0x40        ; one bit of a random byte
+        SE chance, 0            ; skip if it is 0
         LD I, up
         DRW x, y, 4
         ADD x, 4

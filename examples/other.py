@@ -1,18 +1,22 @@
-"""A CHIP-8 interpreter that is wrong in one place, for fuzz.py to find. It has no cycles: an instruction is a step, and no key is ever down."""
+"""A CHIP-8 interpreter with one mistake, for fuzz.py to find.
+
+It has no cycles: an instruction is a step, and no key is ever down.
+"""
 
 
 class Other:
     def __init__(self, game):
         self.memory = bytearray(4096)
         self.memory[0x200 : 0x200 + len(game)] = game
-        self.v, self.i, self.pc, self.stack, self.screen = [0] * 16, 0, 0x200, [], [[False] * 64 for _ in range(32)]
+        self.v, self.i, self.pc, self.stack = [0] * 16, 0, 0x200, []
+        self.screen = [[False] * 64 for _ in range(32)]
 
     def point(self):
-        """What is compared before each instruction: pc, the variables, I and the stack."""
+        """Return what is compared before each instruction: pc, the variables, I, the stack."""
         return self.pc, tuple(self.v), self.i, tuple(self.stack)
 
     def step(self):
-        """Runs an instruction; False where it stops or isn't known here."""
+        """Execute an instruction; return False if it stops or isn't known here."""
         v, code = self.v, int.from_bytes(self.memory[self.pc : self.pc + 2], "big")
         x, y, n, kk, at = code >> 8 & 15, code >> 4 & 15, code & 15, code & 255, code & 4095
         self.pc += 2
@@ -47,18 +51,20 @@ class Other:
         return True
 
     def arithmetic(self, x, y, n):
+        """Execute 8XYN."""
         v, a, b = self.v, self.v[x], self.v[y]
         if n < 4:
             v[x] = (b, a | b, a & b, a ^ b)[n]
             if n:
                 v[15] = 0
             return
-        # (the fault: 8XY6 and 8XYE shift VX, as many later interpreters do, and not VY)
+        # (the mistake: 8XY6 and 8XYE shift VX, as many later interpreters do, and not VY)
         flag = {4: a + b > 255, 5: a >= b, 6: a & 1, 7: b >= a, 14: a >> 7}[n]
         v[x] = {4: a + b, 5: a - b, 6: a >> 1, 7: b - a, 14: a << 1}[n] & 255
         v[15] = int(flag)
 
     def draw(self, column, row, height):
+        """Execute DXYN."""
         hit = False
         for line in range(height):
             byte, y = self.memory[self.i + line & 4095], row % 32 + line

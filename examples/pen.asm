@@ -1,7 +1,7 @@
-; A pen that draws a line while key 2, 4, 6 or 8 is down: up, left, right or down,
-; a dot in each frame. A dot that was lit is put out. Key 5 stops the game.
+; A pen draws a line while key 2, 4, 6 or 8 is down: up, left, right or down, one dot
+; per frame. A lit dot is erased. Key 5 stops the game.
 
-x:      EQU V0                  ; the place of the pen
+x:      EQU V0                  ; the position of the pen
 y:      EQU V1
 key2:   EQU V2                  ; the keys
 key4:   EQU V3
@@ -18,7 +18,7 @@ key5:   EQU V6
         LD key5, 5
         LD I, dot
 draw:   DRW x, y, 1
-keys:   SKNP key2               ; skip where the key is up
+keys:   SKNP key2               ; skip if the key is up
         JP up
         SKNP key4
         JP left

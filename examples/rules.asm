@@ -1,12 +1,13 @@
-; Shows on which of twelve rules in which interpreters of CHIP-8 differ this one is as RCA's language or this project's profile has them: under the
-; number of each rule a tick, or a cross. Rule C waits for a key.
+; Shows how an interpreter follows twelve rules in which interpreters of CHIP-8 differ.
+; Under the number of each rule is a tick if it is RCA's rule or our choice, else a cross.
+; Rule C waits for a key.
 
-x:      EQU VA                  ; the place of the next mark
+x:      EQU VA                  ; the position of the next mark
 y:      EQU VB
-right:  EQU VD                  ; 1 where the rule is as it is to be
+right:  EQU VD                  ; 1 if the rule is as expected
 rule:   EQU VE                  ; its number
 
-; V0 to V3 and VF are what it is tried with.
+; The tests use V0 to V3 and VF.
 
         LD x, 2
         LD rule, 1
@@ -15,7 +16,7 @@ rule:   EQU VE                  ; its number
         LD VF, 5
         OR V0, V1
         LD right, 0
-        SNE VF, 0               ; skip where VF isn't 0
+        SNE VF, 0               ; skip if VF isn't 0
         LD right, 1
         CALL mark
 
@@ -28,7 +29,7 @@ rule:   EQU VE                  ; its number
         LD right, 1
         CALL mark
 
-; 3: FX55 moves I: the second byte goes behind the first one
+; 3: FX55 moves I: the second byte is stored after the first
         LD I, room
         LD V0, 1
         LD [I], V0
@@ -48,8 +49,8 @@ rule:   EQU VE                  ; its number
         DRW V0, V1, 1
         LD V0, 0
         DRW V0, V1, 1
-        LD V2, VF               ; V2 = 1 where a pixel was lit there
-        DRW V0, V1, 1           ; both are put out again
+        LD V2, VF               ; V2 = 1 if a pixel was lit there
+        DRW V0, V1, 1           ; erase both again
         LD V0, 60
         DRW V0, V1, 1
         LD right, 0
@@ -73,7 +74,7 @@ rule:   EQU VE                  ; its number
         LD right, 1
         CALL mark
 
-; 6: BMMM adds V0 to the address, and not the variable that the address's first digit names
+; 6: BMMM adds V0 to the address, not the variable named by the address's first digit
         LD V0, 2
         LD V2, 0
         LD V3, 0
@@ -83,7 +84,7 @@ table:  JP same
         LD right, 1
 same:   CALL mark
 
-; 7: FX1E leaves VF, also where I passes 0FFF
+; 7: FX1E leaves VF unchanged, even if I passes 0FFF
         LD VF, 5
         LD I, 0xFFF
         LD V0, 1
@@ -93,7 +94,7 @@ same:   CALL mark
         LD right, 1
         CALL mark
 
-; 8: the flag is written last, so it is what VF has where VF is the sum too
+; 8: the flag is written last, so VF has the flag even if VF is also the sum
         LD VF, 255
         LD V1, 1
         ADD VF, V1              ; VF = VF + V1, which is 0, with a carry
@@ -111,7 +112,7 @@ same:   CALL mark
         LD F, V0
         LD V0, [I]
         LD right, 0
-        SNE V0, V2              ; skip where V0 and V2 differ
+        SNE V0, V2              ; skip if V0 and V2 differ
         LD right, 1
         CALL mark
 
@@ -122,13 +123,13 @@ same:   CALL mark
         DRW V0, V1, 1
         LD V0, 2
         DRW V0, V1, 1
-        LD V2, VF               ; V2 = 1 where it was put out there
+        LD V2, VF               ; V2 = 1 if it was erased there
         LD right, 0
         SNE V2, 1
         LD right, 1
         CALL mark
 
-; B: each sprite waits for the display: sixteen of them take sixteen ticks
+; B: each sprite waits for the display, so sixteen sprites take sixteen ticks
         LD I, bar
         LD V1, 2
         LD V2, 28
@@ -141,21 +142,21 @@ again:  DRW V1, V2, 1
         JP again
         LD V0, DT
         LD V1, 24
-        SUB V1, V0              ; VF = 1 where DT is at most 24
+        SUB V1, V0              ; VF = 1 if DT is at most 24
         LD right, 0
         SNE VF, 1
         LD right, 1
         CALL mark
 
-; C: FX0A ends when the key is let go
+; C: FX0A ends when the key is released
         LD right, 1
         LD V0, K
-        SKNP V0                 ; skip where the key is up
+        SKNP V0                 ; skip if the key is up
         LD right, 0
         CALL mark
 end:    JP end
 
-; The number of a rule, and below it a tick or a cross.
+; Draws the number of a rule, and below it a tick or a cross.
 mark:   LD y, 4
         LD F, rule
         DRW x, y, 5

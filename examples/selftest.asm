@@ -1,22 +1,23 @@
-; Tries an interpreter of CHIP-8 by itself: 25 fields, each with its number and a tick, or a cross where something in it isn't as it is to be. The 25th waits
-; for a key, which is to be held for a moment. Where all are ticked a tone follows. docs/GAMES.md says what each field tries.
+; Tests an interpreter of CHIP-8 by itself. It shows 25 fields, each with its number and a
+; tick, or a cross if something in it isn't as expected. The 25th waits for a key, to be held
+; for a moment. If all have a tick, a tone follows. docs/QUIRKS.md lists what each field tests.
 ;
-; BMMM isn't among them, since a game that has it can't be certified.
+; BMMM isn't tested, since a game that has it can't be certified.
 
-x:      EQU V9                  ; the place of the next field
+x:      EQU V9                  ; the position of the next field
 y:      EQU VA
 tens:   EQU VB                  ; its number
 ones:   EQU VC
-all:    EQU VD                  ; FF while no field is crossed
+all:    EQU VD                  ; FF while no field has a cross
 right:  EQU VE                  ; FF while the field is right
 
-; V0 to V8 and VF are what it is tried with. Columns 60 to 63 and rows 30 and 31 of the screen belong to no field.
+; The tests use V0 to V8 and VF. Columns 60 to 63 and rows 30 and 31 belong to no field.
 
         LD ones, 1
         LD all, 0xFF
         LD right, 0xFF
 
-; 1: 00E0, in each corner, which leaves VF; and VF of a sprite that is drawn, and that is put out
+; 1: 00E0, in each corner, leaves VF; VF of a sprite that is drawn, and that is erased
         LD I, dot
         LD V0, 0
         LD V1, 0
@@ -53,7 +54,7 @@ right:  EQU VE                  ; FF while the field is right
 
 ; 2: 1MMM, 6XKK, 3XKK, with each bit of KK
         LD V3, 0x5A
-        LD V5, 0xFF             ; what VY and V0 hold is nothing to it
+        LD V5, 0xFF             ; VY and V0 don't matter
         LD V0, 0x5A
         LD VF, 7
         SE V3, 0x5A
@@ -82,7 +83,7 @@ right:  EQU VE                  ; FF while the field is right
         SE V3, 0xDA
         JP skip2
         LD right, 0
-skip2:  SE VF, 7                ; a jump and a skip leave VF
+skip2:  SE VF, 7                ; a jump and a skip leave VF unchanged
         LD right, 0
         CALL show
 
@@ -138,7 +139,7 @@ differ: SNE V3, 0x80
         JP bits
 passed: CALL show
 
-; 5: 7XKK wraps, and leaves VF
+; 5: 7XKK wraps, and leaves VF unchanged
         LD VF, 7
         LD V0, 250
         ADD V0, 10
@@ -189,7 +190,7 @@ passed: CALL show
         LD right, 0
         CALL show
 
-; 7: VF is 0 behind OR, AND and XOR, and stays behind 8XY0
+; 7: OR, AND and XOR set VF to 0, and 8XY0 leaves it unchanged
         LD V1, 0x3C
         LD VF, 1
         LD V0, V1
@@ -231,7 +232,7 @@ passed: CALL show
         LD right, 0
         CALL show
 
-; 9: 8XY5: VF is 1 where there is no borrow
+; 9: 8XY5: VF is 1 if there is no borrow
         LD V0, 10
         LD V1, 7
         SUB V0, V1
@@ -245,7 +246,7 @@ passed: CALL show
         SE VF, 0
         LD right, 0
         LD V0, 7
-        SUB V0, V1              ; of the same there is none
+        SUB V0, V1              ; equal values have none
         SE VF, 1
         LD right, 0
         CALL show
@@ -270,7 +271,7 @@ passed: CALL show
         LD right, 0
         CALL show
 
-; 11: 8XY6 takes VY, and leaves it
+; 11: 8XY6 shifts VY's value, and leaves VY unchanged
         LD V0, 0
         LD V1, 0x8B
         SHR V0, V1
@@ -288,7 +289,7 @@ passed: CALL show
         LD right, 0
         CALL show
 
-; 12: 8XYE takes VY, and leaves it
+; 12: 8XYE shifts VY's value, and leaves VY unchanged
         LD V0, 0
         LD V1, 0x8B
         SHL V0, V1
@@ -306,7 +307,7 @@ passed: CALL show
         LD right, 0
         CALL show
 
-; 13: the flag is written last: it is what VF has where X is F
+; 13: the flag is written last: VF has it even if X is F
         LD VF, 254
         LD V1, 2
         ADD VF, V1
@@ -333,7 +334,7 @@ passed: CALL show
         LD right, 0
         CALL show
 
-; 14: VF is an operand with what it held before
+; 14: VF as an operand has its old value
         LD VF, 5
         LD V0, 3
         ADD V0, VF
@@ -361,20 +362,20 @@ passed: CALL show
         LD right, 0
         CALL show
 
-; 15: 2MMM and 00EE, twelve deep, which leave VF
+; 15: 2MMM and 00EE, twelve deep, leave VF unchanged
         LD V0, 0
         LD V1, 0
         LD VF, 7
         CALL deep1
         SE V0, 12
         LD right, 0
-        SE V1, 66               ; each return once, of 1 to 11
+        SE V1, 66               ; each return of 1 to 11, once
         LD right, 0
         SE VF, 7
         LD right, 0
         CALL show
 
-; 16: AMMM and FX1E, which leaves VF
+; 16: AMMM, and FX1E, which leaves VF unchanged
         LD VF, 7
         LD V0, 3
         LD I, table
@@ -416,7 +417,7 @@ font:   LD F, V6
         JP font
         CALL show
 
-; 18: FX33 of each number, which leaves I and the byte behind
+; 18: FX33 of each number leaves I and the byte after the digits
         LD V3, 0x77
         LD I, room
         LD [I], V3
@@ -426,7 +427,7 @@ font:   LD F, V6
         LD V8, 0
 number: LD I, room
         LD B, V8
-        LD V2, [I]              ; I is where it was
+        LD V2, [I]              ; I is unchanged
         SE V0, V7
         LD right, 0
         SE V1, V6
@@ -451,7 +452,7 @@ next:   ADD V8, 1
         LD right, 0
         CALL show
 
-; 19: FX55 and FX65 take V0 to VX and no more, and leave VF
+; 19: FX55 and FX65 use V0 to VX and no more, and leave VF unchanged
         LD VF, 7
         LD V0, 0x10
         LD V1, 0x11
@@ -469,7 +470,7 @@ next:   ADD V8, 1
         LD V3, 0x23
         LD V4, 0x24
         LD I, room
-        LD [I], V3              ; room has 20 21 22 23 14 15 16 17
+        LD [I], V3              ; the bytes are 20 21 22 23 14 15 16 17
         LD V7, 0x27
         LD I, room
         LD V6, [I]
@@ -500,7 +501,7 @@ next:   ADD V8, 1
         LD right, 0
         CALL show
 
-; 20: FX55 and FX65 move I behind the last byte
+; 20: FX55 and FX65 move I past the last byte
         LD V0, 0x10
         LD V1, 0x11
         LD V2, 0x12
@@ -509,7 +510,7 @@ next:   ADD V8, 1
         LD [I], V3
         LD I, room
         LD [I], V1
-        LD [I], V0              ; room has 10 11 10 13
+        LD [I], V0              ; the bytes are 10 11 10 13
         LD I, room
         LD V1, [I]
         LD V0, [I]
@@ -524,11 +525,11 @@ next:   ADD V8, 1
         LD right, 0
         CALL show
 
-; 21: CXKK has the bits of KK alone, each of them, and comes to different numbers
-        LD V3, 0                ; the bits that came
+; 21: CXKK has only the bits of KK, each of them, and gives different numbers
+        LD V3, 0                ; the bits seen
         LD V4, 0
         LD V5, 64
-        LD V6, 0                ; how often one came twice
+        LD V6, 0                ; how often a number was repeated
         LD V7, 0
 random: RND V0, 0x3C
         OR V3, V0
@@ -556,7 +557,7 @@ random: RND V0, 0x3C
         LD right, 0
         CALL show
 
-; 22: sprites end at the right and at the bottom edge, and VF is of the dots that are drawn alone
+; 22: sprites end at the right and bottom edges, and only dots that are drawn count for VF
         LD I, block
         LD V0, 60
         LD V1, 30
@@ -584,7 +585,7 @@ random: RND V0, 0x3C
         DRW V0, V1, 3
         SE VF, 1
         LD right, 0
-        LD V2, 11               ; a dot that the first row, the second or the third puts out
+        LD V2, 11               ; a dot that the first, second or third row erases
 hits:   LD I, dot
         LD V1, 11
         DRW V0, V1, 1
@@ -600,7 +601,8 @@ hits:   LD I, dot
         JP hits
         CALL show
 
-; 23: a sprite begins at x modulo 64, y modulo the rows; each row of N, the highest bit leftmost; DXY0 draws nothing
+; 23: a sprite begins at x modulo 64, y modulo the rows; N rows, the highest bit leftmost;
+; DXY0 draws nothing
         LD I, dot
         LD V0, 125
         LD V1, 94
@@ -651,7 +653,7 @@ hits:   LD I, dot
         CALL dark
         CALL show
 
-; 24: a sprite waits for a tick, FX07 and FX15, and DT stays at 0
+; 24: a sprite waits for a tick; FX07 and FX15; DT stays at 0
         LD I, dot
         LD V0, 62
         LD V1, 30
@@ -684,7 +686,7 @@ hits:   LD I, dot
 falls:  LD V3, DT
         SNE V3, 0
         JP fallen
-        ADD V4, 1               ; not for ever
+        ADD V4, 1               ; give up after a while
         SE V4, 0
         JP falls
         ADD V5, 1
@@ -698,7 +700,7 @@ fallen: DRW V0, V1, 1
         LD right, 0
         CALL show
 
-; 25: EX9E and EXA1 with all keys up and with one down, and FX0A, which ends when it is let go
+; 25: EX9E and EXA1 with all keys up and with one down; FX0A ends when the key is released
         LD V0, 0
 up:     SKNP V0
         LD right, 0
@@ -729,7 +731,7 @@ down:   LD V1, K
         LD ST, V0
 end:    JP end
 
-; The number of a field and its tick or cross; the next field is right so far.
+; Draws the number of a field and its tick or cross, and sets the next field to right.
 show:   LD V0, tens
         CALL digit
         LD V0, ones
@@ -765,7 +767,7 @@ digit:  LD I, digits
         ADD x, 4
         RET
 
-; The dot at V0, V1 is to be dark, or lit. It is as it was behind it.
+; Expects the dot at V0, V1 to be dark, or lit, and restores it.
 dark:   LD I, dot
         DRW V0, V1, 1
         SE VF, 0
@@ -780,7 +782,7 @@ lit:    LD I, dot
         DRW V0, V1, 1
         RET
 
-; Twelve calls.
+; Twelve calls, one in the other.
 deep1:  ADD V0, 1
         CALL deep2
         ADD V1, 1
@@ -830,7 +832,8 @@ deep12: ADD V0, 1
 
 sums:   DB 0x90, 0x30, 0x60, 0xF0, 0x30, 0x60, 0xE0, 0xA0
         DB 0xF0, 0x70, 0x90, 0xC0, 0x60, 0x70, 0xD0, 0x60
-table:  DB 0x10, 0x11, 0x12, 0x13, 0x14, 0x15, 0x16, 0x17, 0x18, 0x19, 0x1A, 0x1B, 0x1C, 0x1D, 0x1E, 0x1F
+table:  DB 0x10, 0x11, 0x12, 0x13, 0x14, 0x15, 0x16, 0x17
+        DB 0x18, 0x19, 0x1A, 0x1B, 0x1C, 0x1D, 0x1E, 0x1F
 dot:    DB 0b10000000
 block:  DB 0b11111111, 0b11111111, 0b11111111
 bars:   DB 0b11000000, 0b11000000, 0b11000000, 0b11000000, 0b11000000

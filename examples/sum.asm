@@ -2,7 +2,7 @@
 ; Key 0 stops the game. Keys A to F count as 10 to 15. V0 to V2 are the digits.
 
 sum:    EQU V3
-x:      EQU V4                  ; the place of a digit
+x:      EQU V4                  ; the position of a digit
 y:      EQU V5
 key:    EQU V6
 

@@ -1,8 +1,8 @@
-; Lights the dots (x, y) whose numbers have no bit in common: Sierpinski's
-; triangle. A tile of 8 by 8 dots is the same pattern, and it is drawn in each
-; place whose column and row have no bit in common either. Then the game stops.
+; Lights the dots (x, y) whose numbers have no bit in common: Sierpinski's triangle.
+; A tile of 8 by 8 dots has the same pattern. The game draws it at each position whose
+; column and row have no bit in common either. Then the game stops.
 
-x:      EQU V0                  ; the place of a tile
+x:      EQU V0                  ; the position of a tile
 y:      EQU V1
 both:   EQU V2                  ; their common bits
 
@@ -11,7 +11,7 @@ both:   EQU V2                  ; their common bits
 row:    LD x, 0
 place:  LD both, x
         AND both, y
-        SE both, 0              ; skip where it is 0
+        SE both, 0              ; skip if it is 0
         JP next
         DRW x, y, 8             ; draw the eight rows of the tile
 next:   ADD x, 8

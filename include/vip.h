@@ -1,27 +1,47 @@
-/* vip.h - the COSMAC VIP with its proved CHIP-8 interpreter, in a program of yours.
+/* vip.h - the COSMAC VIP with its proved CHIP-8 interpreter, as a library.
  *
- * One function does all that the program `vip` does: it gets the words of a command line and the files that these name, all in memory, and writes the output and
- * the report into memory. docs/COMMANDS.md has the words and the statuses, docs/FORMATS.md the texts. No file is opened, nothing is printed, and nothing is kept
- * between calls.
+ * One function, vip_run, does all that the program `vip` does. It takes the
+ * arguments of a command line and the files that these name, all in memory,
+ * and writes the output and the message into memory. It opens no file, prints
+ * nothing, and keeps nothing between calls. docs/C.md describes it with
+ * examples, docs/COMMANDS.md the arguments, docs/FORMATS.md the texts.
  *
- * Units. Lengths and places are bytes. A limit of a run, as a word, is machine cycles, each of 8 clock cycles; a frame has 3,668 of them.
+ * Units. Lengths and offsets are in bytes. A limit of a run, which is an
+ * argument, is in machine cycles, each of 8 clock cycles; a frame has 3,668.
  *
- * Who owns what. All memory that is passed stays the caller's. What a call takes by malloc it frees before it returns. `words`, `files` and `bytes` are read and
- * not changed; `out`, `err` and `lengths` must not overlap with anything else that is passed. A pointer of which no byte is read or written may not be null
- * either: pass the address of any byte.
+ * Ownership. All memory that is passed remains the caller's. What a call takes
+ * by malloc it frees before it returns. `words`, `files` and `bytes` are read
+ * and not changed. `out`, `err` and `lengths` must not overlap anything else
+ * that is passed. No pointer may be null, even if no byte of it is read or
+ * written: pass the address of any byte.
  *
- * The answer is a status, the number with which `vip` would end, as docs/COMMANDS.md lists them: 0 the work was done, or the run reached its limit; 1 the run came
- * to its stop; 2 the words are refused; 3 a file that they name isn't among `files`; others for what is wrong with a file, of which `err` has one line; 11 no memory
- * was found. Status 10 says that no memory was found for the output. Status 2 also comes, with nothing written and both lengths 0, where a word or a name isn't
- * UTF-8, the last word isn't ended by a byte 00, a place isn't within `bytes`, or two files have one name. No input makes a call fail in another way.
+ * Result. The status is the number with which `vip` would exit;
+ * docs/STATUSES.md lists them:
  *
- * Where a room is too small, the first bytes are in it, and the length tells what would have been needed, as snprintf does; no byte 00 is put behind them. So a
- * call with a room of 0 asks for the length.
+ *     0     the work was done, or the run reached its limit
+ *     1     the run stopped
+ *     2     the arguments are rejected
+ *     3     a file that they name isn't among `files`
+ *     10    out of memory for the output
+ *     11    out of memory
+ *     else  something is wrong with a file; `err` has one line about it
  *
- * Threads. Two threads may call at once, each with its own `out`, `err` and `lengths`. Don't call from a signal handler, nor from the forked child of a process
- * that has threads. A call takes some 100 KB of the stack.
+ * Status 2 also comes, with nothing written and both lengths 0, if an argument
+ * or a name isn't UTF-8, if the last argument doesn't end in a byte 00, if an
+ * offset isn't within `bytes`, or if two files have the same name. No input
+ * makes a call fail in another way.
  *
- * Link with -lvip, or by `pkg-config --cflags --libs vip`. This traces four instructions of a game:
+ * Short buffers. If a buffer is too small, it gets the first bytes, and the
+ * length in `lengths` is the one that would have been needed, as with
+ * snprintf. No byte 00 is appended. So a call with buffers of size 0 asks for
+ * the lengths.
+ *
+ * Threads. Two threads may call at once, each with its own `out`, `err` and
+ * `lengths`. Don't call from a signal handler, nor from the forked child of a
+ * process that has threads. A call takes some 100 KB of the stack.
+ *
+ * Link with -lvip, or by `pkg-config --cflags --libs vip`. This program traces
+ * four instructions of a game:
  *
  *     #include <stdio.h>
  *     #include <vip.h>
@@ -33,8 +53,10 @@
  *         struct vip_file file = {0, 7, 7, 6};
  *         char out[4096], err[256];
  *         struct vip_lengths lengths;
- *         uint8_t status = vip_run((const uint8_t *)words, sizeof words, &file, 1, (const uint8_t *)bytes, sizeof bytes - 1,
- *                                  (uint8_t *)out, sizeof out, (uint8_t *)err, sizeof err, &lengths);
+ *         uint8_t status = vip_run(
+ *             (const uint8_t *)words, sizeof words, &file, 1,
+ *             (const uint8_t *)bytes, sizeof bytes - 1, (uint8_t *)out,
+ *             sizeof out, (uint8_t *)err, sizeof err, &lengths);
  *         if (status > 1 || lengths.out > sizeof out) {
  *             fprintf(stderr, "status %d: %.*s", status, (int)lengths.err, err);
  *             return 1;
@@ -53,7 +75,8 @@
 extern "C" {
 #endif
 
-/* A file that the words may name: where its name and its contents stand in `bytes`. The name is UTF-8, and no byte 00 ends it. */
+/* A file that the arguments may name: the offsets and lengths of its name and
+ * of its content in `bytes`. The name is UTF-8 without a final byte 00. */
 struct vip_file {
     size_t name;
     size_t name_length;
@@ -61,16 +84,26 @@ struct vip_file {
     size_t content_length;
 };
 
-/* How many bytes the output and the report have, also where there was less room. */
+/* The lengths of the output and of the message, even if the buffers are
+ * shorter. */
 struct vip_lengths {
     size_t out;
     size_t err;
 };
 
-/* Runs the program on `words`, each ended by a byte 00, and the first of them a verb; on the `files_count` files whose names and contents stand in `bytes`. Its
- * output goes to `out` and its report, one line or none, to `err`, each as far as there is room. The answer is the status. */
-uint8_t vip_run(const uint8_t *words, size_t words_length, const struct vip_file *files, size_t files_count, const uint8_t *bytes, size_t bytes_length,
-                uint8_t *out, size_t out_room, uint8_t *err, size_t err_room, struct vip_lengths *lengths);
+/* Runs the program and returns its status.
+ *
+ * `words`        the arguments, each ended by a byte 00; the first is a verb
+ * `files`        `files_count` files, with names and contents in `bytes`
+ * `out`          gets the output, as far as it fits
+ * `err`          gets the message, one line or none, as far as it fits
+ * `lengths`      gets the whole lengths of both */
+uint8_t vip_run(const uint8_t *words, size_t words_length,
+                const struct vip_file *files, size_t files_count,
+                const uint8_t *bytes, size_t bytes_length,
+                uint8_t *out, size_t out_room,
+                uint8_t *err, size_t err_room,
+                struct vip_lengths *lengths);
 
 #ifdef __cplusplus
 }

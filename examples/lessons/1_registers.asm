@@ -1,5 +1,5 @@
-; Lesson 1: registers and arithmetic. Two numbers of two bytes are added, and one
-; is taken away from the other. Every byte goes through D, and DF is the carry.
+; Lesson 1: registers and arithmetic. This program adds two numbers of two bytes and
+; subtracts one from the other. Every byte goes through D, and DF is the carry.
 
 work:   EQU 0x0100              ; a byte of RAM for operands
 
@@ -8,7 +8,7 @@ start:  LDI >work
         PHI R2
         LDI <work
         PLO R2                  ; R2 points to the byte,
-        SEX R2                  ; and X says that it is the operand's
+        SEX R2                  ; and X selects R2
 
         LDI 0x01                ; R5 = 0123
         PHI R5
@@ -28,14 +28,14 @@ sum:    GLO R6
         GHI R6
         STR R2
         GHI R5
-        ADC                     ; the same, and DF is added
+        ADC                     ; the same, plus DF
         PHI R7
 
 ; R8 = R5 - R6.
 less:   GLO R6
         STR R2
         GLO R5
-        SM                      ; D = D - M(R2), and DF is 0 where it borrows
+        SM                      ; D = D - M(R2), and DF is 0 if it borrows
         PLO R8
         GHI R6
         STR R2

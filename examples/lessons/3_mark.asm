@@ -1,5 +1,5 @@
-; Lesson 3: a subroutine by MARK and RET, which gives back X and P whoever called,
-; and takes its argument from behind the call.
+; Lesson 3: a subroutine by MARK and RET. It restores X and P of any caller, and reads
+; its argument from the byte after the call.
 
 stack:  EQU 0x01FF
 
@@ -18,10 +18,10 @@ start:  LDI 0
         SEX R2
         SEP R3
 
-main:   MARK                    ; X and P go to M(R2), R2 falls by 1, and X = P
+main:   MARK                    ; M(R2) = X and P, R2 falls by 1, X = P
         SEP R4
         DB 7                    ; the argument
-        DEC R2                  ; RET has left R2 one too high
+        DEC R2                  ; RET leaves R2 one too high
         PLO R7                  ; 70
         MARK
         SEP R4
@@ -30,8 +30,8 @@ main:   MARK                    ; X and P go to M(R2), R2 falls by 1, and X = P
         PLO R8                  ; 120
 end:    IDL
 
-; Here X is the caller's P: LDXA takes the byte behind the call, and the caller goes
-; on behind it.
+; Here X is the caller's P: LDXA reads the byte after the call, and the caller resumes
+; after that byte.
 back:   RET                     ; X and P are the caller's again
 ten:    LDXA
         SEX R2

@@ -1,5 +1,5 @@
-; Lesson 3: subroutines that call others, by the routines of scrt.asm, which is to
-; follow: cat 3_scrt.asm scrt.asm. 100 times 2, and 5 more.
+; Lesson 3: subroutines that call others, by the routines of scrt.asm, which must
+; follow: cat 3_scrt.asm scrt.asm. The result is 100 times 2, plus 5.
 
 stack:  EQU 0x01FF
 
@@ -45,7 +45,7 @@ ten:    SHL
         ADD
         SEP R5
 
-; D and the byte behind the call.
+; Adds the byte after the call to D.
 plus:   STR R2
         LDA R6
         ADD

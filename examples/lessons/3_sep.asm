@@ -1,5 +1,5 @@
-; Lesson 3: a subroutine by SEP. R4 is the program counter of `ten`, which makes
-; ten times of D.
+; Lesson 3: a subroutine by SEP. R4 is the program counter of `ten`, which multiplies
+; D by ten.
 
 stack:  EQU 0x01FF
 
@@ -26,7 +26,7 @@ main:   LDI <ten
         PLO R8                  ; 120
 end:    IDL
 
-; The SEP that returns stands before the entry, so that it leaves R4 at it.
+; The SEP that returns is right before the entry, so R4 is at the entry afterwards.
 back:   SEP R3
 ten:    SHL                     ; 2 D
         STR R2

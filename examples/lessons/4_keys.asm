@@ -1,5 +1,5 @@
-; Lesson 4: ports, Q and keys. Each key that is pressed sounds while it is down, and
-; its number is kept, from 0100 on. Key F ends the program.
+; Lesson 4: ports, Q and keys. A key sounds while it is down, and its number is stored
+; from 0100 on. Key F ends the program.
 
 list:   EQU 0x0100
 work:   EQU 0x01FF
@@ -19,9 +19,9 @@ start:  LDI >work
 scan:   INC R8
         GLO R8
         STR R2
-        OUT 2                   ; its low four bits select the key,
-        DEC R2                  ; and OUT has moved R(X) on
-        BN3 scan                ; EF3: whether that key is down
+        OUT 2                   ; its low four bits select the key
+        DEC R2                  ; OUT has incremented R(X)
+        BN3 scan                ; EF3 is active if that key is down
         SEQ
 hold:   B3 hold
         REQ

@@ -1,4 +1,4 @@
-; Lesson 5: the display. Each byte of the screen is its own address, and an interrupt
+; Lesson 5: the display. Each byte of the screen is its own address. An interrupt
 ; routine shows 32 rows of 8 bytes, each in four raster lines.
 
 screen: EQU 0x0200
@@ -8,11 +8,11 @@ stack:  EQU 0x01FF
 start:  LDI >show
         PHI R1
         LDI <show
-        PLO R1                  ; R1 is the interrupt routine,
+        PLO R1                  ; R1 is the interrupt routine
         LDI >stack
         PHI R2
         LDI <stack
-        PLO R2                  ; R2 the stack, and R0 is DMA's
+        PLO R2                  ; R2 is the stack; DMA uses R0
         LDI >main
         PHI R3
         LDI <main
@@ -32,12 +32,12 @@ fill:   GLO R7
         INP 1                   ; the display is on
 stay:   BR stay
 
-; The interrupt comes 30 cycles before the first DMA cycle, with P = 1 and X = 2. What
-; it changes it keeps, but R0: T, which has the old X and P, and D.
+; The interrupt comes 30 cycles before the first DMA cycle, with P = 1 and X = 2. The
+; routine saves and restores T, which has the old X and P, and D.
         PAGE
 leave:  LDXA
         RET
-show:   NOP                     ; three cycles: from here on they are even
+show:   NOP                     ; three cycles: later cycles are even
         DEC R2
         SAV
         DEC R2
@@ -46,13 +46,13 @@ show:   NOP                     ; three cycles: from here on they are even
         PHI R0
         LDI <screen
         PLO R0
-        SEX R2                  ; (SEX R2 is two cycles of waiting)
+        SEX R2                  ; (SEX R2 waits two cycles)
         SEX R2
         SEX R2
 row:    GLO R0
-        SEX R2                  ; and here come the eight bytes of a line
+        SEX R2                  ; the eight DMA cycles come here
         DEC R0
-        PLO R0                  ; R0 is at the row again
+        PLO R0                  ; R0 is at the row's start again
         SEX R2
         DEC R0
         PLO R0
@@ -60,5 +60,5 @@ row:    GLO R0
         DEC R0
         PLO R0
         SEX R2
-        BN1 row                 ; the fourth line; EF1 comes with the last row
+        BN1 row                 ; the fourth line; EF1 is active in the last row
         BR leave

@@ -2,9 +2,9 @@
 ; off for another.
 
         ORG 0x8000
-reset:  LBR start               ; read at 0000, while the boot latch is set
-start:  OUT 4                   ; the latch is clear, and RAM at 0000; X = P = 0, so
-        DB  0                   ; that the byte behind goes out
+reset:  LBR start               ; read at 0000 while the boot latch is set
+start:  OUT 4                   ; clears the latch: RAM is at 0000 now; since
+        DB  0                   ; X = P = 0, OUT sends this byte
         LDI >main
         PHI R3
         PHI R4

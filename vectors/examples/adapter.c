@@ -1,4 +1,4 @@
-/* Speaks the line protocol of docs/CONFORMANCE.md ("An adapter") for the interpreter chip8.h.
+/* Speaks the line protocol of docs/VECTORS.md ("An adapter") for the interpreter chip8.h.
 
        cc -O2 -o adapter vectors/examples/adapter.c
        vectors/run --without-cycles 60 --adapter ./adapter */

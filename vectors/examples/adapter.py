@@ -1,4 +1,4 @@
-"""Speaks the line protocol of docs/CONFORMANCE.md ("An adapter") for the interpreter chip8.py.
+"""Speaks the line protocol of docs/VECTORS.md ("An adapter") for the interpreter chip8.py.
 
     vectors/run --adapter python3 vectors/examples/adapter.py
 """

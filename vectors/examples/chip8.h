@@ -1,4 +1,4 @@
-/* A CHIP-8 interpreter without cycles, by docs/LANGUAGE.md, with the clock of docs/CONFORMANCE.md ("Without cycles"). */
+/* A CHIP-8 interpreter without cycles, by docs/LANGUAGE.md, with the clock of docs/VECTORS.md ("Without cycles"). */
 #include <stdint.h>
 #include <string.h>
 

@@ -3,7 +3,7 @@
 //! on this: `assemble` answers what `IsAssembly` in `specs/Made.antt` says, or the first fault as `HasFirstFault` in `specs/Sources.antt`
 //! says, want of memory aside, and the readers of `Assembly` show it; `check` answers every fault and every note, as `told` and `note_at` in
 //! `specs/Told.antt` say, and the first of the faults is that one. The instructions are those of RCA's data sheet of the CDP1802 and of its manual of
-//! CHIP-8; the language of the lines is this project's profile (`docs/SOURCES.md`).
+//! CHIP-8; the language of the lines is this project's profile (`docs/ASSEMBLER.md`).
 //!
 //! Pass 1 gives each line its address and each name its value, pass 2 the bytes.
 #![tactic(auto)]

@@ -4,7 +4,7 @@
 //! parts of a line or its first fault exactly as `parsed` in `specs/Lines.antt` says, and `value` the value of an expression or its first
 //! fault as `value_of` in `specs/Expressions.antt` says. Where a line isn't read, `lex_culprit` is the place in it of what is wrong, as
 //! `specs/Culprits.antt` says, and `note_in` an instruction in a comment. None of them takes memory. The mnemonics are those of RCA's data sheet of the
-//! CDP1802 and of Cowgod's CHIP-8 Technical Reference; the language of the lines is this project's profile (`docs/SOURCES.md`).
+//! CDP1802 and of Cowgod's CHIP-8 Technical Reference; the language of the lines is this project's profile (`docs/ASSEMBLER.md`).
 #![tactic(auto)]
 
 ghost use Rattle.std.specs.Prelude.{◌≡◌, ◌≤◌, ◌<◌, ℕ, Bool, List, length, map, IfSome, IfOk, OnOk, MatchOption, MatchResult, Some, None, Ok, Err};

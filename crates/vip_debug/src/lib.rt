@@ -13,7 +13,7 @@
 //! the processor would read; where the lines of a source are told, a line that shows bytes that it gave has the source's line at its end. No call takes
 //! memory. Commands behind a dispatch point answer as on a run that begins with a file of the machine there (`laws::goes_on_behind`).
 //!
-//! The commands and their answers are this project's format (`docs/FORMATS.md`).
+//! The commands and their answers are this project's format (`docs/DEBUGGER.md`).
 #![tactic(auto)]
 
 mod answer;
