@@ -223,6 +223,8 @@ def mask_of(keys: Iterable[int] | int) -> int:
     """Return a bit for each key, of a set of keys or of one key."""
     mask = 0
     for key in (keys,) if isinstance(keys, int) else keys:
+        if not isinstance(key, int):
+            raise TypeError(f"a key is a number from 0 to 15, and not {key!r}")
         if not 0 <= key <= 15:
             raise ValueError(f"a key is a number from 0 to 15, and not {key}")
         mask |= 1 << key
@@ -234,6 +236,8 @@ def content_of(source: Source) -> bytes:
     if isinstance(source, (str, os.PathLike)):
         with open(source, "rb") as file:
             return file.read()
+    if not isinstance(source, (bytes, bytearray, memoryview)):
+        raise TypeError(f"bytes or a path are needed, and not {type(source).__name__}")
     return bytes(source)
 
 
@@ -391,8 +395,8 @@ class Machine:
         Return PICTURE, or why the machine stopped before: STOP, IDLE, or LIMIT if no picture comes
         within a minute, as with the display off.
         """
-        if n < 1:
-            raise ValueError(f"a number of frames is at least 1, and not {n}")
+        if not isinstance(n, int) or n < 1:
+            raise ValueError(f"a number of frames is a whole number of at least 1, and not {n}")
         mask, frame, at, struct = self._note(keys), self._calls.frame, self._at, self._struct
         result = 0
         for _ in range(n):
